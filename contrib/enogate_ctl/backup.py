@@ -47,14 +47,14 @@ def write_backup(folder: str, name: str, devices: Iterable[Listed], now: float) 
     return os.path.join(folder, file)
 
 
-def replace_file(directory: int, name: str, contents: dict[str, bytes], now: float) -> None:
+def replace_file(directory: int, name: str, contents: dict[str, bytes], now: float, mode: int = MODE) -> None:
     """Puts an archive with these contents into an open directory. After a power failure, the earlier one or this one is
     there, and perhaps the temporary file."""
     temporary = f"{name}.{os.urandom(8).hex()}"
-    file = os.open(temporary, os.O_WRONLY | os.O_CREAT | os.O_EXCL, MODE, dir_fd=directory)
+    file = os.open(temporary, os.O_WRONLY | os.O_CREAT | os.O_EXCL, mode, dir_fd=directory)
     try:
         with os.fdopen(file, "wb") as stream:
-            os.fchmod(file, MODE)
+            os.fchmod(file, mode)
             with tarfile.open(fileobj=stream, mode="w:gz") as archive:
                 for path, content in contents.items():
                     member = tarfile.TarInfo(path)

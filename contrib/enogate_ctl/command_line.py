@@ -24,7 +24,7 @@ REPORT_TIMEOUTS = {**dict.fromkeys(("switch", "dim", "query", "meter", "stop"), 
 USAGE = """enogatectl [--timeout SECONDS] [--wait SECONDS|--no-wait] [--json] [--desk PATH] [--lines PATH] GATEWAY
                   ORDER..
        enogatectl [..] GATEWAY learn on|on answer|as EEP --for SECONDS
-       enogatectl [..] GATEWAY devices [--export|--import]
+       enogatectl [..] GATEWAY devices [--plan] [--export | --import [--dry-run]]
        enogatectl [..] GATEWAY lines|watch
        enogatectl [..] GATEWAY replace OLD NEW [EEP]
        enogatectl [..] GATEWAY backup [DIRECTORY]
@@ -33,7 +33,8 @@ USAGE = """enogatectl [--timeout SECONDS] [--wait SECONDS|--no-wait] [--json] [-
        enogatectl paths
        enogatectl --serve"""
 # The options that not all commands have, by the names of their values.
-OPTIONS = {"json": "json", "seconds": "for", "exports": "export", "imports": "import", "desk": "desk", "lines": "lines",
+OPTIONS = {"json": "json", "seconds": "for", "exports": "export", "imports": "import", "plan": "plan",
+           "dry_run": "dry-run", "desk": "desk", "lines": "lines",
            "wait": "wait", "no_wait": "no-wait"}
 EPILOG = ("GATEWAY is the name of a gateway, for example `hall` for enogate@hall.service. ORDER is one of: "
           f"{', '.join(grammar.FORMS_BY_VERB)}. Words after -- are part of the order, even if they begin with -. "
@@ -70,15 +71,22 @@ class GiveOrder(NamedTuple):
 
 
 class ExportDevices(NamedTuple):
-    """Writes the devices of a gateway as CSV."""
+    """Writes the devices of a gateway as CSV, with the other columns of a plan if one is on standard input."""
     paths: Paths
     timeout: float
+    has_plan: bool = False
 
 
 class ImportDevices(NamedTuple):
-    """Learns the devices of a CSV file."""
+    """Learns the devices of a CSV file, or prints what it would do."""
     paths: Paths
     timeout: float
+    is_dry_run: bool = False
+
+
+class ComparePlan(NamedTuple):
+    """Compares the plan on standard input with the devices of a gateway as its lines record them."""
+    paths: Paths
 
 
 class ReplaceDevice(NamedTuple):
@@ -120,7 +128,7 @@ class Serve(NamedTuple):
 
 Following = ShowLines | ShowReadings
 OrderCommand = GiveOrder | ExportDevices | ImportDevices | ReplaceDevice | BackUp
-Command = AskBase | ShowPaths | ShowHelp | Serve | OrderCommand | ShowDevices | Following
+Command = AskBase | ShowPaths | ShowHelp | Serve | OrderCommand | ShowDevices | ComparePlan | Following
 
 
 def seconds_of(text: str) -> float:
@@ -170,7 +178,11 @@ def parser() -> argparse.ArgumentParser:
     made.add_argument("--export", action="store_true", dest="exports",
                       help="with `devices`: print the learned devices as CSV (id,eep,label)")
     made.add_argument("--import", action="store_true", dest="imports",
-                      help="with `devices`: learn and label the devices of such a CSV file, from standard input")
+                      help="with `devices`: learn and label the devices of a CSV file, from standard input")
+    made.add_argument("--dry-run", action="store_true", help="with `devices --import`: print what would be done")
+    made.add_argument("--plan", action="store_true",
+                      help="with `devices`: compare the devices with those of a CSV file, from standard input; with "
+                      "--export, print its other columns, too")
     made.add_argument("--serve", action="store_true",
                       help="run the commands that a program requests on standard input")
     made.add_argument("--version", action="version", version=f"enogatectl {VERSION}")
@@ -245,8 +257,11 @@ class CommandLine:
         return 0.0 if words.no_wait else words.wait
 
     def hint(self) -> str:
-        """What to write instead, if the name of the gateway or the path of the port is missing; otherwise empty."""
+        """What to write instead, if the name of the gateway or the path of the port is missing, or a file name is too
+        much; otherwise empty."""
         first, others = self.words.gateway, self.words.order
+        if others[:1] == ["devices"]:
+            return "devices takes no file name: append <FILE to the command"
         if first not in (*grammar.FORMS_BY_VERB, *grammar.COMMANDS) or (others and others[0] in grammar.FORMS_BY_VERB):
             return ""
         if first == "base" and others:
@@ -263,14 +278,21 @@ class CommandLine:
 
     def devices(self) -> Command:
         """The command `devices`."""
-        self.allow("devices", "desk", "lines", "json", "exports", "imports")
-        if not self.words.exports and not self.words.imports:
-            return ShowDevices(self.paths(), self.words.json)
-        if self.words.exports and self.words.imports:
+        self.allow("devices", "desk", "lines", "json", "exports", "imports", "plan", "dry_run")
+        words = self.words
+        if words.exports and words.imports:
             self.fail("--export and --import cannot be used together")
-        self.allow("devices --export and devices --import", "desk", "lines", "exports", "imports")
-        kind = ExportDevices if self.words.exports else ImportDevices
-        return kind(self.paths(), self.words.timeout)
+        if words.imports:
+            self.allow("devices --import", "desk", "lines", "imports", "dry_run")
+            return ImportDevices(self.paths(), words.timeout, words.dry_run)
+        self.allow("devices without --import", "desk", "lines", "json", "exports", "plan")
+        if words.exports:
+            self.allow("devices --export", "desk", "lines", "exports", "plan")
+            return ExportDevices(self.paths(), words.timeout, words.plan)
+        if words.plan:
+            self.allow("devices --plan", "desk", "lines", "plan")
+            return ComparePlan(self.paths())
+        return ShowDevices(self.paths(), words.json)
 
     def replace(self, *words: str) -> Command:
         """The command `replace`."""

@@ -21,12 +21,21 @@ MAX_EARLIER_BYTES = 1 << 20
 def open_lines(paths: Paths, earlier: int = 0) -> Lines:
     """The lines from now on, and those in so many bytes before. Raises UnreadableLines, also if there is neither a file
     of lines nor a desk: the name of the gateway is probably wrong."""
-    if not (os.path.exists(paths.lines) or os.path.exists(paths.desk)):
+    if is_missing(paths.lines) and is_missing(paths.desk):
         raise UnreadableLines(f"there are no lines {paths.lines}: correct the name of the gateway, or start it")
     try:
         return Lines(paths.lines, earlier)
     except UnusableFile as error:
         raise UnreadableLines(str(error)) from error
+
+
+def is_missing(path: str) -> bool:
+    """Whether there is no such file. A file that this user may not see is not missing."""
+    try:
+        os.stat(path)
+    except OSError as error:
+        return not isinstance(error, PermissionError)
+    return False
 
 
 def follow_lines(lines: Lines, wait: Callable[[bool], bool]) -> Iterator[list[bytes]]:

@@ -14,10 +14,15 @@ PATTERNS = {"ID": ID_PATTERN, "EEP": EEP_PATTERN, "TEXT": "[!-~](?:[ -~]{0,30}[!
 BASE_ORDER = "base"
 FORMS_BY_VERB = share.order_forms()
 VERB_LIST = ", ".join(FORMS_BY_VERB)
-# The commands about a gateway that are no orders.
-COMMANDS = ("backup", "devices", "help", "lines", "replace", "watch")
+# The commands about a gateway that are no orders, and what each does.
+COMMANDS = {"backup": "writes a backup of the devices and the settings",
+            "devices": "prints the devices, also for spreadsheets",
+            "help": "prints the forms of orders and commands", "lines": "prints the output lines",
+            "replace": "learns a device in place of a broken one", "watch": "prints the readings as they come"}
+# What a parameter of an order on the desk does not accept, but one of this command does.
+MORE_VALUES = {"ID": ", or the label of a device"}
 # The word in place of the ID of a device. The orders with these first words have an ID as the second word.
-ID_PLACEHOLDER, SAMPLE_ID = "ID", "00000000"
+ID_PLACEHOLDER, SAMPLE_ID, FIRST_CHANNEL = "ID", "00000000", "0"
 VERBS_WITH_ID = frozenset(verb for verb, forms in FORMS_BY_VERB.items()
                           if forms[0][0].split(" ")[1:2] == [ID_PLACEHOLDER])
 
@@ -37,6 +42,12 @@ def is_order(text: str) -> bool:
     return any(re.fullmatch(pattern_of(form), text) for form, _ in FORMS_BY_VERB.get(text.split(" ", 1)[0], ()))
 
 
+def parameters_of(forms: str) -> list[tuple[str, str]]:
+    """The parameters in these forms, each with what it means for this command."""
+    return [(name, meaning + MORE_VALUES.get(name, "")) for name, meaning in share.parameter_meanings().items()
+            if name in forms.split(" ")]
+
+
 def invalid_order(order: str) -> InvalidOrder:
     """Why this text is not an order."""
     verb = order.split(" ", 1)[0]
@@ -44,8 +55,20 @@ def invalid_order(order: str) -> InvalidOrder:
         others = [one for one in (*FORMS_BY_VERB, *COMMANDS) if one != verb]
         return InvalidOrder(f"{order!r} is not an order{suggestion(verb, others) or f': the orders are {VERB_LIST}'}")
     shown = " | ".join(form for form, _ in FORMS_BY_VERB[verb])
-    named = [f"{name}: {meaning}" for name, meaning in share.parameter_meanings().items() if name in shown.split(" ")]
+    named = [f"{name}: {meaning}" for name, meaning in parameters_of(shown)]
     return InvalidOrder(f"{order!r} is not an order: the form is {shown}" + (f" ({'; '.join(named)})" if named else ""))
+
+
+def possible_order(words: Sequence[str]) -> str:
+    """What may be meant by words that are no order, as a shell takes it: a label of several words, which needs
+    quotation marks, or an order without the channel. Empty if there is neither."""
+    from shlex import join
+    verb, *others = words
+    labels = [[verb, " ".join(others[:end]), *others[end:]] for end in range(2, len(others) + 1)]
+    for possible in [*labels, [verb, *others[:1], FIRST_CHANNEL, *others[1:]]]:
+        if re.fullmatch(PATTERNS["TEXT"], possible[1]) and is_order(" ".join((verb, SAMPLE_ID, *possible[2:]))):
+            return join(possible)
+    return ""
 
 
 def order_and_label(words: Sequence[str]) -> tuple[str, str]:
@@ -58,6 +81,8 @@ def order_and_label(words: Sequence[str]) -> tuple[str, str]:
         return order, ""
     # This argument is a whole label, even if it begins with an ID, so that the rest becomes no part of the order.
     if not re.fullmatch(PATTERNS["TEXT"], name) or not is_order(" ".join((verb, SAMPLE_ID, *words[2:]))):
+        if possible := possible_order(words):
+            raise InvalidOrder(f"{order!r} is not an order: did you mean `{possible}`?")
         raise invalid_order(order)
     return " ".join((verb, ID_PLACEHOLDER, *words[2:])), name
 

@@ -13,9 +13,9 @@ from enogate_tools import files
 from enogate_tools.gateways import Paths, all_paths, why_unknown
 
 from .answers import Answer
-from .command_line import REPORT_TIMEOUT, REPORT_TIMEOUTS, AskBase, BackUp, Command, ExportDevices, Following, GiveOrder
-from .command_line import ImportDevices, OrderCommand, ReplaceDevice, Serve, ShowDevices, ShowHelp, ShowLines, ShowPaths
-from .command_line import ShowReadings, parsed
+from .command_line import REPORT_TIMEOUT, REPORT_TIMEOUTS, AskBase, BackUp, Command, ComparePlan, ExportDevices
+from .command_line import Following, GiveOrder, ImportDevices, OrderCommand, ReplaceDevice, Serve, ShowDevices, ShowHelp
+from .command_line import ShowLines, ShowPaths, ShowReadings, parsed
 from .client import Client, NoAnswer, UnreadableLines
 from .grammar import BASE_ORDER, InvalidOrder, order_with_id
 from .stops import Stopped, StopSignals
@@ -88,11 +88,13 @@ def run(command: Command, stops: StopSignals) -> int:
             print(forms(verb))
             return OK
     become_gateway_user(command.paths)
-    if isinstance(command, ShowDevices | Following) and (why := why_unknown(command.paths)):
+    if isinstance(command, ShowDevices | ComparePlan | Following) and (why := why_unknown(command.paths)):
         raise UnreadableLines(why)
     match command:
         case ShowDevices(paths, is_json):
             return print_devices(paths, is_json)
+        case ComparePlan(paths):
+            return compare_plan(paths)
         case ShowLines(paths):
             from . import following
             following.print_lines(paths, sys.stdout.buffer, following.OutputReader(paths.lines, sys.stdout.buffer).wait)
@@ -111,9 +113,9 @@ def ask_gateway(command: OrderCommand, stops: StopSignals) -> int:
     client = Client(command.paths, command.timeout)
     match command:
         case ExportDevices():
-            return export_devices(client)
+            return export_devices(client, command)
         case ImportDevices():
-            return import_devices(client)
+            return import_devices(client, command)
         case ReplaceDevice():
             return replace_device(client, command)
         case BackUp():
@@ -192,9 +194,18 @@ def give_and_wait(client: Client, command: GiveOrder, seconds: float) -> int:
         if not command.is_json:
             print_answer(answer, command)
     else:
-        return report_failure(f"sent, but {device} reported nothing within {seconds:g} s: has it learned this gateway?",
-                              UNREPORTED)
+        return report_failure(f"sent, but {device} reported nothing within {seconds:g} s: "
+                              f"{why_silent(command)}", UNREPORTED)
     return OK
+
+
+def why_silent(command: GiveOrder) -> str:
+    """Why a device may have reported nothing after an order."""
+    from . import recorded, report
+    with contextlib.suppress(UnreadableLines):
+        if found := report.missing_channel(command.order, recorded.recorded_devices(command.paths)):
+            return found
+    return "has it learned this gateway?"
 
 
 def answer_text(answer: Answer, paths: Paths) -> str:
@@ -269,29 +280,47 @@ def device_table_text(devices: Sequence[Listed], paths: Paths) -> str:
     return device_table(devices, paths, datetime.now(timezone.utc), columns)
 
 
-def export_devices(client: Client) -> int:
-    """Prints the learned devices as CSV."""
-    from .sheet import devices_as_csv
-    print(devices_as_csv(require_success(client.ask("list")).devices), end="")
-    return OK
-
-
-def import_devices(client: Client) -> int:
-    """Learns and labels the devices of the CSV file on standard input."""
-    from . import sheet
-    from .words import advice
+def read_sheet() -> str:
+    """The CSV file on standard input."""
     if sys.stdin.isatty():
         print("enogatectl: enter the devices as CSV, and end with Ctrl-D; to read a file, append <FILE to the command",
               file=sys.stderr)
-    text = sys.stdin.buffer.read().decode("utf-8", "replace")
+    from .sheet import decoded
+    return decoded(sys.stdin.buffer.read())
+
+
+def export_devices(client: Client, command: ExportDevices) -> int:
+    """Prints the learned devices as CSV."""
+    from .plan import export_with_plan
+    from .sheet import Sheet
+    sheet = Sheet(read_sheet() if command.has_plan else "")
+    print(export_with_plan(require_success(client.ask("list")).devices, sheet), end="")
+    return OK
+
+
+def import_devices(client: Client, command: ImportDevices) -> int:
+    """Learns and labels the devices of the CSV file on standard input."""
+    from .importing import DeviceImporter, DryRun, OrderBatches
+    text = read_sheet()
     known = {device.device: device for device in require_success(client.ask("list")).devices}
+    giver, would = (DryRun(known), "would be ") if command.is_dry_run else (OrderBatches(client), "")
+    succeeded = DeviceImporter(known, giver.give, print_at_once, would).run(text)
+    if not command.is_dry_run:
+        # The lines then record the labels, if the gateway still answers.
+        with contextlib.suppress(NoAnswer):
+            client.ask("list")
+    return OK if succeeded else REFUSED
 
-    giver = sheet.OrderBatches(client)
 
-    def give(orders: list[str]) -> list[str | None]:
-        return [advice(answer.error) if answer.error else None for answer in giver.give(orders)]
-
-    return OK if sheet.DeviceImporter(known, give, print_at_once).run(text) else REFUSED
+def compare_plan(paths: Paths) -> int:
+    """Prints which devices of the CSV file on standard input are learned, and which of them were heard."""
+    from . import plan, recent, recorded
+    from .sheet import Sheet
+    devices = recorded.recorded_devices(paths)
+    heard = recent.last_telegrams(paths.lines).keys() | recent.last_seen_times(paths.bridge, paths.lines).keys()
+    found = plan.compare(Sheet(read_sheet()), devices, heard)
+    print(found.text)
+    return OK if found.is_complete else REFUSED
 
 
 def replace_device(client: Client, command: ReplaceDevice) -> int:
@@ -303,7 +332,7 @@ def replace_device(client: Client, command: ReplaceDevice) -> int:
         with contextlib.suppress(OSError):
             print_at_once(done)
     print_at_once(f"{command.old} was replaced by {command.new}{'' if steps else ' already'}. If it is an actuator, "
-                  "teach it this gateway. Automations and other programs that use the ID need the new one.")
+                  "teach it this gateway. Programs that use the ID need the new one.")
     return OK
 
 

@@ -2,9 +2,10 @@
 device shows that it arrived."""
 from __future__ import annotations
 
+from collections.abc import Iterable
 from typing import NamedTuple
 
-from enogate_lines.contents import Telegram
+from enogate_lines.contents import Listed, Telegram
 from enogate_lines.entities import ALL_CHANNELS, Table
 
 from .client import LONG_PAUSE, Client, Lines
@@ -15,6 +16,8 @@ from .recent import telegram_in
 ASKED_READINGS = {"query": {"OV", "POS"}, "meter": {"MV"}}
 # The profiles whose readings have a channel.
 CHANNEL_PROFILES, CHANNEL_READING = "D2-01-", "IO"
+# The entities that show the outputs of these devices.
+OUTPUTS = ("switch", "light")
 
 
 class Report(NamedTuple):
@@ -36,6 +39,16 @@ def is_report(telegram: Telegram, order: str) -> bool:
         return False
     has_channels = telegram.eep.startswith(CHANNEL_PROFILES)
     return not has_channels or int(numbers[0]) in (ALL_CHANNELS, found.get(CHANNEL_READING))
+
+
+def missing_channel(order: str, devices: Iterable[Listed]) -> str:
+    """Which channels the device of an order has, if it does not have that of the order; otherwise empty."""
+    _, device, *numbers = order.split(" ")
+    eeps = [one.eep for one in devices if one.device == device.upper() and one.eep.startswith(CHANNEL_PROFILES)]
+    counts = [row.count for eep in eeps for row in Table().rows_of_profile(eep).values() if row.entity in OUTPUTS]
+    if not counts or int(numbers[0]) in (ALL_CHANNELS, *range(counts[0])):
+        return ""
+    return f"it has only the channel{'s' * (counts[0] > 1)} {', '.join(map(str, range(counts[0])))}"
 
 
 def report_in(line: bytes, order: str) -> Report | None:

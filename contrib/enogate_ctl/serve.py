@@ -6,9 +6,9 @@ A request is a line of JSON on standard input. It has an `id`, which is a number
     {"id": 7, "arguments": ["--json", "hall", "--", "list"]}    runs the command `enogatectl --json hall -- list`
     {"id": 7, "stop": true}                                     ends this command, as the signal SIGTERM does
 
-The commands `lines`, `watch`, `devices --import` and `--serve` cannot be requested. Each command runs in a forked
-process of its own, with the locks and rights that it always has. When it has ended, its answer is a line on standard
-output:
+The commands `lines`, `watch`, `devices --import`, `devices --plan` and `--serve` cannot be requested. Each command runs
+in a forked process of its own, with the locks and rights that it always has. When it has ended, its answer is a line on
+standard output:
 
     {"error":"","id":7,"output":"{\\"count\\":0,\\"type\\":\\"list\\"}\\n","status":0}
 
@@ -29,16 +29,16 @@ from collections.abc import Callable, Iterable
 from dataclasses import dataclass, field
 
 from . import words
-from .command_line import Following, ImportDevices, Serve, parsed
+from .command_line import ComparePlan, Following, ImportDevices, Serve, parsed
 from .main import carry_out
 from .stops import SIGNALS, Stopped, StopSignals, block_signals, restore_default_handlers
 
 OK, FAILED, INVALID = 0, 1, 2
 # The modules that commands of the page import only if they need them. They are imported before the first fork, so that
 # none of these commands has to do it.
-PRELOADED_MODULES = ("enogate_ctl.base", "enogate_ctl.device_table", "enogate_ctl.labels", "enogate_ctl.recorded",
-                     "enogate_ctl.replacing", "enogate_ctl.running", "enogate_ctl.sheet", "enogate_ctl.shown",
-                     "enogate_ctl.window", "enogate_lines.decimals", "enogate_tools.port")
+PRELOADED_MODULES = ("enogate_ctl.base", "enogate_ctl.device_table", "enogate_ctl.labels", "enogate_ctl.plan",
+                     "enogate_ctl.recorded", "enogate_ctl.replacing", "enogate_ctl.running", "enogate_ctl.sheet",
+                     "enogate_ctl.shown", "enogate_ctl.window", "enogate_lines.decimals", "enogate_tools.port")
 # A command line that is only parsed.
 WARM_UP_ARGUMENTS = ["--json", "hall", "--", "status"]
 # How much is read at once, the length of the longest request, and how much of a bad one is shown, in bytes.
@@ -83,7 +83,7 @@ def run(arguments: list[str]) -> int:
     """Runs a command, and returns its exit status."""
     try:
         command = parsed(arguments)
-        if isinstance(command, ImportDevices | Serve | Following):
+        if isinstance(command, ImportDevices | ComparePlan | Serve | Following):
             print("enogatectl: this command cannot be requested", file=sys.stderr)
             return INVALID
         return carry_out(command)

@@ -1,17 +1,20 @@
-"""The learned devices as CSV (comma-separated values), for a spreadsheet: a line for each, with ID, EEP and label."""
+"""Sheets of devices as CSV (comma-separated values): the export of a gateway, with ID, EEP and label of each device; or
+the sheet of a planner, whose head names these columns in any sequence, and which may have others."""
 from __future__ import annotations
 
+import codecs
 import csv
 import io
+import itertools
 import re
-from collections.abc import Callable, Iterable, Iterator
-from dataclasses import dataclass
+import unicodedata
+from collections.abc import Iterable, Iterator, Sequence
+from typing import NamedTuple
 
 from enogate_lines.contents import Listed
+from enogate_tools import share
 
-from . import grammar
-from .answers import PACKET_ERRORS, Answer
-from .client import PAUSE, Client
+from .grammar import EEP_PATTERN, ID_PATTERN, PATTERNS
 
 HEADING = ["id", "eep", "label"]
 # A spreadsheet takes a text that begins like this for a formula. The apostrophe before it says that it is a text.
@@ -19,185 +22,202 @@ FORMULA_PATTERN = re.compile("'*[=+@-]")
 QUOTED_PATTERN = re.compile("'+[=+@-]")
 # The characters that may separate the values, as the spreadsheets of different countries write them.
 SEPARATORS = ",;\t"
+# A first line that names the separator, for spreadsheets.
+SEPARATOR_PATTERN = re.compile("sep=(.)\r?")
 # A number that a spreadsheet makes of an ID with the letter E.
 FLOAT_PATTERN = re.compile("[0-9.,]+[Ee][+-]?[0-9]+")
-
-# How many rows are handled at once: their orders wait for a turn of the gateway together.
-MAX_GROUP_ROWS = 100
-# How many orders are given at once at first. Later, as many are given as take this time, in seconds.
-INITIAL_BATCH_SIZE, MAX_BATCH_SECONDS = 16, 2.0
+# What may be between the digits of an ID or of a profile.
+MARKS_PATTERN = re.compile(r"[\s:._/-]")
+LONGEST_LABEL = 32
+# The ID of a telegram to all devices, which no device has.
+BROADCAST_ID = "FFFFFFFF"
 
 
 class InvalidRow(ValueError):
     """A row does not describe a device. The text is a sentence that says why."""
 
 
-@dataclass(frozen=True)
-class DeviceRow:
-    """A device as a row describes it."""
+class DeviceRow(NamedTuple):
+    """A device as a row describes it. `fault` says why it has no label although the row has a text for it. `others`
+    are the values of the other columns."""
     device: str
     eep: str
     label: str
+    fault: str = ""
+    others: tuple[str, ...] = ()
 
 
-# A row, and the number of its line.
+# A row, and its number in the sheet.
 NumberedRow = tuple[int, DeviceRow | InvalidRow]
 
 
-def devices_as_csv(devices: Iterable[Listed]) -> str:
-    """The devices as CSV."""
+class Head:
+    """The head of a sheet: the heads of the columns, as the sheet has them."""
+
+    def __init__(self, heads: Sequence[str]):
+        self.heads = heads
+        fields = share.texts_by_word("column")
+        # the number of the column of each field
+        self.places: dict[str, int] = {}
+        for place, head in enumerate(heads):
+            if field := fields.get(re.sub(r"[\W_]", "", head.lower())):
+                self.places.setdefault(field, place)
+        self.other_places = [place for place in range(len(heads)) if place not in self.places.values()]
+
+    @property
+    def is_complete(self) -> bool:
+        """Whether it names the columns that each sheet needs."""
+        return {"id", "eep"} <= self.places.keys()
+
+    @property
+    def missing(self) -> str:
+        """Which column it does not name."""
+        field = "eep" if "id" in self.places else "id"
+        words = ", ".join(word for word, one in share.texts_by_word("column").items() if one == field)
+        return f"no column has the {'profiles' if field == 'eep' else 'IDs'}: its head can be one of {words}"
+
+    @property
+    def others(self) -> tuple[str, ...]:
+        """The heads of the other columns."""
+        return tuple(self.heads[place] for place in self.other_places)
+
+    def value(self, field: str, cells: Sequence[str]) -> str:
+        """The value of a field in a row."""
+        place = self.places.get(field, len(cells))
+        return cells[place] if place < len(cells) else ""
+
+    def name(self, field: str) -> str:
+        """The head of the column of a field."""
+        return self.heads[self.places[field]]
+
+    def row_of(self, cells: list[str]) -> DeviceRow:
+        """The device of a row, or InvalidRow."""
+        device, eep, label = (self.value(field, cells) for field in HEADING)
+        others = tuple(cells[place] if place < len(cells) else "" for place in self.other_places)
+        label, fault = self.label_and_fault(label[1:] if QUOTED_PATTERN.match(label) else label)
+        return DeviceRow(self.id_in(device), self.eep_in(eep), label, fault, others)
+
+    def id_in(self, text: str) -> str:
+        """The ID in a cell, or InvalidRow."""
+        digits = MARKS_PATTERN.sub("", text).upper().removeprefix("0X")
+        if re.fullmatch("[0-9]{1,7}", text):
+            # A spreadsheet removes leading zeros.
+            digits = text.zfill(8)
+        if FLOAT_PATTERN.fullmatch(text) and not re.fullmatch(ID_PATTERN, text):
+            raise InvalidRow(f"{self.name('id')}: a spreadsheet changed the ID to the number {text}: enter it again, "
+                             "in a column with the format Text")
+        if not re.fullmatch(ID_PATTERN, digits) or digits == BROADCAST_ID:
+            raise InvalidRow(f"{self.name('id')}: {text!r} is not the ID of a device: 8 hexadecimal digits")
+        return digits
+
+    def eep_in(self, text: str) -> str:
+        """The profile in a cell, or InvalidRow."""
+        digits = MARKS_PATTERN.sub("", text).upper().removeprefix("EEP")
+        eep = "-".join((digits[:2], digits[2:4], digits[4:]))
+        if not re.fullmatch(EEP_PATTERN, eep):
+            raise InvalidRow(f"{self.name('eep')}: {text!r} is not a profile such as D5-00-01")
+        return eep
+
+    def label_and_fault(self, text: str) -> tuple[str, str]:
+        """The label in a cell, and an empty text; or no label, and why the text is none."""
+        if not text or re.fullmatch(PATTERNS["TEXT"], text):
+            return text, ""
+        possible = ascii_spelling(text)
+        hint = f"; possible is {possible!r}" if possible else ""
+        return "", f"{self.name('label')}: {text!r} is not 1 to {LONGEST_LABEL} ASCII characters{hint}"
+
+
+def devices_as_csv(devices: Iterable[Listed], heads: tuple[str, ...] = (),
+                   others: dict[str, tuple[str, ...]] | None = None) -> str:
+    """The devices as CSV, with further columns, whose values `others` has by the IDs of devices."""
     out = io.StringIO()
     writer = csv.writer(out, lineterminator="\n")
-    writer.writerow(HEADING)
+    writer.writerow([*HEADING, *heads])
     for device in devices:
-        label = f"'{device.label}" if FORMULA_PATTERN.match(device.label) else device.label
-        writer.writerow([device.device, device.eep, label])
+        more = (others or {}).get(device.device, ("",) * len(heads))
+        writer.writerow([device.device, device.eep, *map(without_formula, (device.label, *more))])
     return out.getvalue()
 
 
-def rows_in(text: str) -> Iterator[NumberedRow]:
-    """The rows of a CSV file, each with the number of its line, without headings and empty rows."""
-    text = text.removeprefix("\ufeff")
-    first = text.partition("\n")[0]
-    separator = max(SEPARATORS, key=first.count)
-    reader = csv.reader(io.StringIO(text, newline=""), delimiter=separator)
-    while True:
-        try:
-            cells = [cell.strip() for cell in next(reader)]
-        except StopIteration:
-            return
-        except csv.Error as error:
-            yield reader.line_num, InvalidRow(f"not CSV: {error}")
-            continue
-        if any(cells) and [cell.lower() for cell in cells[:3]] != HEADING:
-            yield reader.line_num, device_row_of(cells)
+def without_formula(text: str) -> str:
+    """A text that no spreadsheet takes for a formula."""
+    return f"'{text}" if FORMULA_PATTERN.match(text) else text
 
 
-def device_row_of(cells: list[str]) -> DeviceRow | InvalidRow:
-    """The device of a row, or why it has none."""
-    device, eep, label = (*cells, "", "")[:3]
-    if re.fullmatch("[0-9]{1,7}", device):
-        # A spreadsheet removes leading zeros.
-        device = device.zfill(8)
-    if QUOTED_PATTERN.match(label):
-        label = label[1:]
-    if FLOAT_PATTERN.fullmatch(device) and not re.fullmatch(grammar.ID_PATTERN, device):
-        return InvalidRow(f"a spreadsheet changed the ID to the number {device}: enter it again, in a column with the "
-                          "format Text")
-    row = DeviceRow(device.upper(), eep.upper(), label)
+class Sheet:
+    """A sheet of devices. Without a head, its columns are those of an export. `other_heads` are the heads of the other
+    columns, as far as the rows were read."""
+
+    def __init__(self, text: str):
+        self.text, self.head, self.other_heads = text.removeprefix("\ufeff"), Head(HEADING), tuple[str, ...]()
+        self.has_begun = False
+        # the number of the row of each device, and what it has
+        self.seen: dict[str, tuple[int, DeviceRow]] = {}
+
+    def rows(self) -> Iterator[NumberedRow]:
+        """The rows, each with its number, without heads and empty rows. A head that lacks a column ends them."""
+        first = self.text.partition("\n")[0]
+        named = SEPARATOR_PATTERN.fullmatch(first)
+        separator = named[1] if named else max(SEPARATORS, key=first.count)
+        reader = csv.reader(io.StringIO(self.text, newline=""), delimiter=separator)
+        for number in itertools.count(1):
+            try:
+                cells = [cell.strip() for cell in next(reader)]
+                if not (named and number == 1) and (row := self.row_of(cells)):
+                    yield number, self.checked(number, row)
+            except StopIteration:
+                return
+            except csv.Error as error:
+                yield number, InvalidRow(f"not CSV: {error}")
+            except InvalidRow as error:
+                yield number, error
+                if not self.head.is_complete:
+                    return
+
+    def reason(self, error: str) -> str:
+        """The sentence of an error of an order, with the head of the column that is wrong."""
+        column = f"{self.head.name('eep')}: " if error == "unsupported_profile" else ""
+        return column + share.texts_by_word("error").get(error, error)
+
+    def checked(self, number: int, row: DeviceRow) -> DeviceRow:
+        """A row, or InvalidRow if another row has something else for its device."""
+        before, first = self.seen.setdefault(row.device, (number, row))
+        if first != row:
+            raise InvalidRow(f"{self.head.name('id')}: {row.device} is in row {before} already, with other values")
+        return row
+
+    def row_of(self, cells: list[str]) -> DeviceRow | None:
+        """The device of a row; None if it is a head or empty. Raises InvalidRow."""
+        if not any(cells):
+            return None
+        head, is_first, self.has_begun = Head(cells), not self.has_begun, True
+        if not head.is_complete and not (is_first and head.places and not any(map(has_id, cells))):
+            return self.head.row_of(cells)
+        self.head, self.other_heads = head, head.others
+        if not head.is_complete:
+            raise InvalidRow(head.missing)
+        return None
+
+
+def has_id(cell: str) -> bool:
+    """Whether this cell is an ID."""
+    return re.fullmatch(ID_PATTERN, MARKS_PATTERN.sub("", cell)) is not None
+
+
+def decoded(data: bytes) -> str:
+    """The text of a file, in UTF-8, in UTF-16 with its mark, or as spreadsheets of Western countries write it."""
+    if data.startswith((codecs.BOM_UTF16_LE, codecs.BOM_UTF16_BE)):
+        return data.decode("utf-16", "replace")
     try:
-        for order in (add_order(row), label_order(row)):
-            grammar.check_order(order)
-    except grammar.InvalidOrder as error:
-        return InvalidRow(str(error))
-    return row
+        return data.decode("utf-8")
+    except UnicodeDecodeError:
+        return data.decode("cp1252", "replace")
 
 
-def add_order(row: DeviceRow) -> str:
-    """The order that learns the device."""
-    return f"add {row.device} {row.eep}"
-
-
-def label_order(row: DeviceRow) -> str:
-    """The order for its label."""
-    return f"label {row.device} {row.label}".rstrip(" ")
-
-
-def row_groups(rows: Iterable[NumberedRow]) -> Iterator[list[NumberedRow]]:
-    """The rows in groups, which are not too large, and have no device twice."""
-    group: list[NumberedRow] = []
-    devices: set[str] = set()
-    for number, row in rows:
-        device = row.device if isinstance(row, DeviceRow) else ""
-        if len(group) == MAX_GROUP_ROWS or device in devices:
-            yield group
-            group, devices = [], set()
-        group.append((number, row))
-        devices |= {device} - {""}
-    if group:
-        yield group
-
-
-class OrderBatches:
-    """Gives the orders of an import. The desk is locked until all orders that were given at once are answered,
-    and other commands wait meanwhile, so a slow gateway gets fewer orders at once."""
-
-    def __init__(self, client: Client):
-        self.client, self.most = client, INITIAL_BATCH_SIZE
-
-    def give(self, orders: list[str]) -> list[Answer]:
-        """The answers to these orders."""
-        answers: list[Answer] = []
-        while len(answers) < len(orders):
-            part = orders[len(answers):len(answers) + self.most]
-            found = self.ask(part)
-            if any(answer.error in PACKET_ERRORS for answer in found):
-                # The error may be that of a telegram, and each answer that of another order.
-                found = [self.ask([order])[0] for order in part]
-            answers += found
-        return answers
-
-    def ask(self, orders: list[str]) -> list[Answer]:
-        """The answers to these orders, which are given at once."""
-        start = self.client.clock()
-        answers = self.client.ask_all(orders)
-        seconds = max(PAUSE, self.client.clock() - start)
-        self.most = max(1, min(MAX_GROUP_ROWS, int(len(orders) * MAX_BATCH_SECONDS / seconds)))
-        # Other commands look at the lock of the desk once in each pause.
-        self.client.sleep(2 * PAUSE)
-        return answers
-
-
-class DeviceImporter:
-    """Learns devices and gives them labels. `known` has the learned ones by their IDs, `give` gives orders at once and
-    returns for each the sentence of an error or None, `report` prints a line."""
-
-    def __init__(self, known: dict[str, Listed], give: Callable[[list[str]], list[str | None]],
-                 report: Callable[[str], None]):
-        self.known, self.give, self.report = known, give, report
-
-    def run(self, text: str) -> bool:
-        """Handles each row, whatever became of the others. Returns whether all succeeded. An empty input is a failure:
-        the export that should have written it failed."""
-        results = [self.import_group(group) for group in row_groups(rows_in(text))]
-        if not results:
-            self.report("the input has no devices")
-        return all(results) and text.strip() != ""
-
-    def import_group(self, group: list[NumberedRow]) -> bool:
-        """Handles a group of rows, and reports the results. Returns whether all succeeded. A device that is not learned
-        gets no label."""
-        rows = [row for _, row in group if isinstance(row, DeviceRow)]
-        done: dict[str, list[str]] = {row.device: [] for row in rows}
-        errors: dict[str, str] = {}
-        for result, order_of in (("learned", self.missing_add_order), ("labelled", self.missing_label_order)):
-            orders = {row.device: order for row in rows if row.device not in errors and (order := order_of(row))}
-            for (device, order), error in zip(orders.items(), self.give(list(orders.values())) if orders else []):
-                if error:
-                    errors[device] = f"`{order}` was refused: {error}"
-                else:
-                    done[device].append(result)
-        for number, row in group:
-            self.report_row(number, row, "" if isinstance(row, InvalidRow) else errors.get(row.device, ""), done)
-        return not errors and len(rows) == len(group)
-
-    def report_row(self, number: int, row: DeviceRow | InvalidRow, error: str, done: dict[str, list[str]]) -> None:
-        """Notes and reports the result of a row."""
-        if isinstance(row, InvalidRow):
-            self.report(f"line {number}: {row}")
-            return
-        if not error:
-            label = row.label or (self.known[row.device].label if row.device in self.known else "")
-            self.known[row.device] = Listed(row.device, row.eep, label, None)
-        self.report(f"line {number}: {row.device}: {error or ' and '.join(done[row.device]) or 'unchanged'}")
-
-    def missing_add_order(self, row: DeviceRow) -> str | None:
-        """The order that learns the device, if it needs one. A device that is learned with this profile is not learned
-        again, which would remove its manufacturer ID."""
-        known = self.known.get(row.device)
-        return None if known and known.eep == row.eep else add_order(row)
-
-    def missing_label_order(self, row: DeviceRow) -> str | None:
-        """The order for its label, if it needs one. A row without a label leaves the label as it is."""
-        known = self.known.get(row.device)
-        return label_order(row) if row.label and row.label != (known.label if known else "") else None
+def ascii_spelling(text: str) -> str:
+    """A text as a label that the gateway can store; empty if it has no characters for that."""
+    spellings = share.texts_by_word("spelling")
+    german = "".join(spellings.get(letter, letter) for letter in unicodedata.normalize("NFC", text))
+    ascii_only = re.sub("[^ -~]", "", unicodedata.normalize("NFD", re.sub(r"\s", " ", german)))
+    shown = re.sub(" +", " ", ascii_only).strip()
+    return (shown.upper() if text == text.upper() else shown)[:LONGEST_LABEL].strip()

@@ -23,16 +23,12 @@ def shown(answer: Answer) -> str:
     return last.members.get("result", last.kind)
 
 
-# What a parameter of an order on the desk does not accept, but one of this command does.
-MORE_VALUES = {"ID": ", or the label of a device"}
-
-
 def forms(verb: str) -> str:
-    """The forms of the orders, or of those with this first word, each with what it does, and their parameters. Of a
-    command that is no order, its usage."""
+    """The forms of the orders and the commands, or of those with this first word, each with what it does, and their
+    parameters. Of a command that is no order, its usage."""
     if verb in grammar.COMMANDS:
-        return "\n".join(line.strip() for line in USAGE.split("\n") if verb in re.split(r"[ |]", line))
+        usage = (line.strip() for line in USAGE.split("\n") if verb in re.split(r"[ |]", line))
+        return "\n".join([*usage, grammar.COMMANDS[verb]])
     shown = [(form, does) for form, does in share.effects().items() if not verb or form.split(" ")[0] == verb]
-    used = {word for form, _ in shown for word in form.split(" ")}
-    return table([*shown, *((name, meaning + MORE_VALUES.get(name, ""))
-                            for name, meaning in share.parameter_meanings().items() if name in used)])
+    parameters = grammar.parameters_of(" ".join(form for form, _ in shown))
+    return table([*shown, *([] if verb else grammar.COMMANDS.items()), *parameters])

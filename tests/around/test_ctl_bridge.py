@@ -31,7 +31,7 @@ SWITCH_PROFILE = "D2-01-12"
 FENCED_ORDER = re.compile(rb"^(?:status\n)+(?!status\n)[^\r\n]+\nstatus\r\n", re.MULTILINE)
 # The types of the lines that end an answer.
 ANSWER_END_TYPES = ("ok", "teach", "error", "list", "status")
-SENSOR, NEVER_HEARD = "01800A02", "01800A03"
+SENSOR, NEVER_HEARD, REPLACEMENT = "01800A02", "01800A03", "01800A04"
 
 
 
@@ -190,10 +190,40 @@ class OrdersOfTwoPrograms(StateOfBridgeTest):
         self.assert_seen(self.retained(), retained)
 
 
+class ReplacedDevice(StateOfBridgeTest):
+    """A client of Home Assistant's discovery while a sensor is replaced."""
+
+    def start_bridge(self, **settings: str) -> None:
+        super().start_bridge(MQTT_LABEL_SECONDS="60", **settings)
+
+    def discovery_messages(self) -> list[list[str]]:
+        """The topics and payloads that it has received."""
+        found = [message.partition(" ")[::2] for message in self.heard.messages()]
+        return [[topic, text] for topic, text in found if topic.startswith("homeassistant/")]
+
+    def test_it_keeps_its_entities(self):
+        topic = f"homeassistant/sensor/enogate_hall/{SENSOR}_TMP/config"
+        self.assert_soon(lambda: topic in self.retained(), True)
+        before = [one for one in self.retained() if one.startswith("homeassistant/")]
+        self.heard.forget()
+        self.assertEqual(self.ctl("replace", "Attic", REPLACEMENT).status, OK)
+
+        def serial_number() -> str:
+            return json.loads(self.retained()[topic])["device"]["serial_number"]
+        self.assert_soon(serial_number, REPLACEMENT)
+        self.wait_until_handled()
+        self.assertEqual([one for one in self.retained() if one.startswith("homeassistant/")], before)
+        for changed, text in self.discovery_messages():
+            self.assertIn(SENSOR, changed)
+            self.assertIn(f'"state_topic":"{TOPIC_ROOT}/{REPLACEMENT}/', text)
+        self.bring(REPLACEMENT, "A5 00007F08")
+        self.assert_soon(lambda: self.retained().get(f"{TOPIC_ROOT}/{REPLACEMENT}/TMP"), "20.0784")
+
+
 class LastSeenTimes(StateOfBridgeTest):
     """The times of telegrams, which `list` takes from the state of the bridge."""
 
-    def row(self) -> str:
+    def last_seen_cell(self) -> str:
         """The row of the sensor, after its readings."""
         found = re.search(rf"Attic +{SENSOR} .* dBm(.*)", self.ctl("list").out)
         return found[1].strip() if found else "no row"
@@ -201,7 +231,7 @@ class LastSeenTimes(StateOfBridgeTest):
     def test_they_are_shown_while_the_bridge_runs(self):
         self.assertNotIn("LAST SEEN", self.ctl("list").out)
         self.bring(SENSOR, "A5 00007F08")
-        age = wait_for(self.row, lambda row: row.endswith(" ago"))
+        age = wait_for(self.last_seen_cell, lambda cell: cell.endswith(" ago"))
         self.assertRegex(age, "^[0-9]+ s ago$")
         self.assertLess(int(age.split(" ")[0]), 2 * WITHIN)
         heading, seen, unseen = self.ctl("list").out.splitlines()
@@ -214,5 +244,5 @@ class LastSeenTimes(StateOfBridgeTest):
         self.assertEqual((first["id"], first["label"], second["id"], second["seen"]),
                          (SENSOR, "Attic", NEVER_HEARD, None))
         self.bridge.end()
-        self.assertEqual(self.row(), "")
+        self.assertEqual(self.last_seen_cell(), "")
         self.assertNotIn("LAST SEEN", self.ctl("list").out)

@@ -51,8 +51,8 @@ class EachOrder(CtlTest):
 
     def test_a_device_is_replaced(self):
         """After each step at which the command may have been interrupted, and again when it was done."""
-        done = ("{} was replaced by 01800C02{}. If it is an actuator, teach it this gateway. Automations and other "
-                "programs that use the ID need the new one.\n")
+        done = ("{} was replaced by 01800C02{}. If it is an actuator, teach it this gateway. Programs that use "
+                "the ID need the new one.\n")
         steps = ["01800C02: learned\n", "01800C02: labelled\n", "01800C01: removed\n"]
         for count in range(3):
             for words in ("add 01800C01 D2-01-12", "label 01800C01 Lamp C", "add 01800C02 D2-01-12",
@@ -258,7 +258,7 @@ class SeveralPrograms(CtlTest):
         devices = [f"01A{number:02X}{row:03X}" for row in range(20)]
         text = "".join(f"{device},F6-02-01,Lamp {device}\n" for device in devices)
         run = self.ctl("devices", "--import", text=text)
-        wanted = [f"line {row}: {device}: learned and labelled" for row, device in enumerate(devices, 1)]
+        wanted = [f"row {row}: {device}: learned and labelled" for row, device in enumerate(devices, 1)]
         if (run.status, run.out.splitlines()) != (OK, wanted) or text not in self.ctl("devices", "--export").out:
             self.wrong.append((text, run))
 
@@ -278,22 +278,21 @@ class DeviceSheets(CtlTest):
         run = self.ctl("devices", "--import", text="\ufeff" + rows)
         self.assertEqual((run.status, run.err), (REFUSED, ""))
         self.assertEqual(run.out.splitlines(), [
-            "line 2: 01800222: learned and labelled",
-            "line 3: 01800AC1: `add 01800AC1 D5-00-99` was refused: unsupported_profile: the gateway does not support "
-            "this profile: see the table of profiles in the guide, and try a similar one",
-            "line 4: 'add NONSENSE X' is not an order: the form is add ID EEP (ID: 8 hexadecimal digits; EEP: a "
-            "profile such as D5-00-01)",
-            "line 5: 01800AC2: learned and labelled",
-            "line 6: 'label 01800AC3 ö' is not an order: the form is label ID TEXT | label ID (ID: 8 "
-            "hexadecimal digits; TEXT: 1 to 32 ASCII characters)",
-            "line 7: a spreadsheet changed the ID to the number 1,80E+15: enter it again, in a column with the format "
-            "Text",
-            "line 9: 01800AC4: learned"])
+            "row 2: 01800222: learned and labelled",
+            "row 3: 01800AC1: not learned: eep: the gateway does not support this profile: see the table of profiles "
+            "in the guide, and try a similar one",
+            "row 4: id: 'nonsense' is not the ID of a device: 8 hexadecimal digits",
+            "row 5: 01800AC2: learned and labelled",
+            "row 6: 01800AC3: learned; label: 'ö' is not 1 to 32 ASCII characters; possible is 'oe'",
+            "row 7: id: a spreadsheet changed the ID to the number 1,80E+15: enter it again, in a column with the "
+            "format Text",
+            "row 9: 01800AC4: learned"])
+        self.assert_run(self.ctl("remove", "01800AC3"), OK, "deleted\n")
         exported = self.ctl("devices", "--export")
         self.assertEqual(exported, Run(OK, "id,eep,label\n01800222,D5-00-01,'=Hall\n"
                                        '01800AC2,D2-01-12,"Lamp, ""2"""\n01800AC4,F6-02-01,\n', ""))
         self.assert_run(self.ctl("devices", "--import", text=exported.out), OK,
-                        "line 2: 01800222: unchanged\nline 3: 01800AC2: unchanged\nline 4: 01800AC4: unchanged\n")
+                        "row 2: 01800222: unchanged\nrow 3: 01800AC2: unchanged\nrow 4: 01800AC4: unchanged\n")
         for device in ("01800222", "01800AC2", "01800AC4"):
             self.assert_run(self.ctl("remove", device), OK, "deleted\n")
         self.assertEqual(self.ctl("devices", "--import", text=exported.out).status, OK)

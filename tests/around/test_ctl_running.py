@@ -130,8 +130,8 @@ class UnitOfGateway(unittest.TestCase):
 
     def test_the_name_of_no_gateway(self):
         (self.work / "etc/default/enogate-attic").touch()
-        why = ("enogatectl: there is no gateway Hall: the gateways of this machine are attic, hall; to make it, enable "
-               "it: sudo systemctl enable --now enogate@Hall\n")
+        why = ("enogatectl: there is no gateway Hall: did you mean hall? If not, make it: sudo systemctl enable --now "
+               "enogate@Hall\n")
         for words, status in (("status", SILENT), ("devices", REFUSED), ("lines", REFUSED), ("learn off", SILENT)):
             self.assertEqual(self.ctl(*words.split(" "), name="Hall"), Run(status, "", why))
 

@@ -41,7 +41,7 @@ class AnswerRule(TimeLimitedTest):
         self.assertEqual(AnswerFinder("status").desk_text, b"status\n")
         self.assertLess(len(AnswerFinder("label 01800ABC " + 32 * "x").desk_text), 71)
 
-    def test_more_fences(self):
+    def test_text_with_four_fences(self):
         """The order `status` needs none."""
         finder = AnswerFinder("list")
         finder.least = 4

@@ -7,7 +7,7 @@ from unittest import mock
 from enogate_ctl import main as program
 from enogate_ctl.base import ask_base
 from enogate_ctl.client import PAUSE, Client, NoAnswer
-from enogate_tools import port as ports
+from enogate_tools import esp3, port as ports
 from fakes import OK, GatewayFilesTest, TimeLimitedTest, status, teach
 
 ANSWER = (status(), status(), OK, status())
@@ -118,7 +118,7 @@ class BaseIdForms(TimeLimitedTest):
         for base, is_one in (("FF800000", True), ("FFFFFF80", True), ("FF800001", False), ("FF7FFF80", False)):
             header = bytes([0, 5, 0, 2])
             data = bytes.fromhex("00" + base)
-            packet = b"\x55" + header + bytes([ports.crc8(header)]) + data + bytes([ports.crc8(data)])
+            packet = b"\x55" + header + bytes([esp3.crc8(header)]) + data + bytes([esp3.crc8(data)])
             self.assertEqual((ports.base_in(packet) is not None, ports.is_base(base)), (is_one, is_one), base)
 
 

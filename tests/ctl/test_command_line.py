@@ -2,6 +2,7 @@
 import contextlib
 import datetime
 import io
+import json
 import os
 import pathlib
 import re
@@ -12,14 +13,14 @@ import tempfile
 import unittest
 from unittest import mock
 
-from enogate_ctl import command_line, following, grammar, main as program, running
+from enogate_ctl import command_line, following, grammar, main as program, recent, running
 from enogate_ctl.answers import Answer, parse_line
 from enogate_ctl.client import NoAnswer, UnreadableLines
-from enogate_ctl.command_line import AskBase, BackUp, ExportDevices, GiveOrder, ImportDevices, ReplaceDevice, Serve
-from enogate_ctl.command_line import ShowDevices, ShowHelp, ShowLines, ShowPaths, parsed
+from enogate_ctl.command_line import AskBase, BackUp, ComparePlan, ExportDevices, GiveOrder, ImportDevices
+from enogate_ctl.command_line import ReplaceDevice, Serve, ShowDevices, ShowHelp, ShowLines, ShowPaths, parsed
 from enogate_tools.gateways import Paths, paths_of
 from enogate_ctl.stops import Stopped
-from enogate_tools import VERSION, port as ports
+from enogate_tools import VERSION, port as ports, share
 from fakes import TimeLimitedTest
 
 ROOT = pathlib.Path(__file__).parents[2]
@@ -68,12 +69,6 @@ class CommandLines(TimeLimitedTest):
             ("base /dev/enocean", AskBase("/dev/enocean")), ("paths", ShowPaths()),
             ("paths list", GiveOrder(paths_of("paths"), 10.0, False, "list", None)),
             ("paths list --json", GiveOrder(paths_of("paths"), 10.0, True, "list", None)),
-            ("paths devices --export", ExportDevices(paths_of("paths"), 10.0)),
-            ("hall devices --export", ExportDevices(HALL, 10.0)),
-            ("--timeout 3 hall devices --export", ExportDevices(HALL, 3.0)),
-            ("hall devices", ShowDevices(HALL, False)), ("--json devices devices", ShowDevices(DEVICES, True)),
-            ("hall devices --import", ImportDevices(HALL, 10.0)),
-            ("hall --timeout 3 devices --import", ImportDevices(HALL, 3.0)),
             ("hall lines", ShowLines(HALL)), ("--timeout 3 hall lines", ShowLines(HALL)),
             ("--desk d --lines l hall lines", ShowLines(Paths("d", "l", HALL.bridge))),
             ("hall replace 01800abd 01800af0", ReplaceDevice(HALL, 10.0, "01800ABD", "01800AF0", "")),
@@ -87,11 +82,28 @@ class CommandLines(TimeLimitedTest):
             ("--desk d --lines l hall backup .", BackUp(Paths("d", "l", HALL.bridge), 10.0, "hall", ".")),
             ("--serve", Serve()),
         ):
-            with self.subTest(words):
-                found = parsed(words.split(" "))
-                self.assertEqual((type(found), found), (type(wanted), wanted))
+            self.assert_parsed(words, wanted)
         self.assertEqual(parsed(["hall", "label", "01800ABC", "a  b"]).order, "label 01800ABC a  b")
         self.assertEqual(parsed(["hall", "--", "replace", "-Lamp a", "01800AF0"]).old, "-Lamp a")
+
+    def assert_parsed(self, words, wanted):
+        with self.subTest(words):
+            found = parsed(words.split(" "))
+            self.assertEqual((type(found), found), (type(wanted), wanted))
+
+    def test_devices(self):
+        for words, wanted in (
+            ("paths devices --export", ExportDevices(paths_of("paths"), 10.0)),
+            ("hall devices --export", ExportDevices(HALL, 10.0)),
+            ("--timeout 3 hall devices --export", ExportDevices(HALL, 3.0)),
+            ("hall devices", ShowDevices(HALL, False)), ("--json devices devices", ShowDevices(DEVICES, True)),
+            ("hall devices --import", ImportDevices(HALL, 10.0)),
+            ("hall --timeout 3 devices --import", ImportDevices(HALL, 3.0)),
+            ("hall devices --import --dry-run", ImportDevices(HALL, 10.0, True)),
+            ("hall devices --export --plan", ExportDevices(HALL, 10.0, True)),
+            ("--plan hall devices", ComparePlan(HALL)),
+        ):
+            self.assert_parsed(words, wanted)
 
     def test_bad_usage(self):
         for words, text in (
@@ -103,14 +115,6 @@ class CommandLines(TimeLimitedTest):
             *((f"hall learn on --for {text}", f"argument --for: '{text}' is not a number of seconds greater than 0")
               for text in ("0", "-0", "-1", "inf", "x")),
             ("hall list --timeout nan", "argument --timeout: 'nan' is not a number of seconds greater than 0"),
-            ("hall devices --export --import", "--export and --import cannot be used together"),
-            ("mqtt devices --export", "is not the name"),
-            ("hall devices --export --json", "--json cannot be used with devices"),
-            ("hall devices --import --for 5", "--for cannot be used with devices"),
-            ("hall devices --for 5", "--for cannot be used with devices"),
-            ("hall devices --import --json", "--json cannot be used with devices --export and devices --import"),
-            ("hall list --export", "--export cannot be used with an order"),
-            ("hall list --import", "--import cannot be used with an order"),
             ("base /dev/x --json", "--json cannot be used with base"), ("base /dev/x --for 5", "--for cannot be used"),
             ("base /dev/x --export", "--export cannot be used"), ("base /dev/x --import", "--import cannot be used"),
             ("base /dev/x --desk d", "--desk cannot be used"), ("base /dev/x --lines d", "--lines cannot be used"),
@@ -127,6 +131,27 @@ class CommandLines(TimeLimitedTest):
             ("paths --export", "--export cannot be used with paths"), ("paths --import", "--import cannot be used"),
             ("paths --desk d", "--desk cannot be used with paths"), ("paths --lines d", "--lines cannot be used"),
             ("--time 5 hall list", "there is no option --time"), ("-- hall list", "required: GATEWAY"),
+        ):
+            self.assert_bad(words, text)
+
+    def test_bad_usage_of_devices(self):
+        for words, text in (
+            ("hall devices --export --import", "--export and --import cannot be used together"),
+            ("mqtt devices --export", "is not the name"),
+            ("hall devices --export --json", "--json cannot be used with devices --export"),
+            ("hall devices --import --plan", "--plan cannot be used with devices --import"),
+            ("hall devices --export --dry-run", "--dry-run cannot be used with devices without --import"),
+            ("hall devices --dry-run", "--dry-run cannot be used with devices without --import"),
+            ("hall devices --plan --json", "--json cannot be used with devices --plan"),
+            ("hall list --plan", "--plan cannot be used with an order"),
+            ("hall devices --import --dry-run plan.csv", "devices takes no file name: append <FILE to the command"),
+            ("hall devices plan.csv", "devices takes no file name: append <FILE to the command"),
+            ("hall backup --dry-run", "--dry-run cannot be used with backup"),
+            ("hall devices --import --for 5", "--for cannot be used with devices"),
+            ("hall devices --for 5", "--for cannot be used with devices"),
+            ("hall devices --import --json", "--json cannot be used with devices --import"),
+            ("hall list --export", "--export cannot be used with an order"),
+            ("hall list --import", "--import cannot be used with an order"),
         ):
             self.assert_bad(words, text)
 
@@ -192,14 +217,20 @@ ID                  8 hexadecimal digits, or the label of a device
 CH                  a channel, 0 to 30
 """, ""))
         self.assertEqual(run_ctl("hall", "help", "list"), (0, "list  lists all learned devices\n", ""))
-        for command, usage in (("backup", "backup [DIRECTORY]"), ("devices", "devices [--export|--import]"),
-                               ("lines", "lines|watch"), ("replace", "replace OLD NEW [EEP]"),
-                               ("watch", "lines|watch")):
-            self.assertEqual(run_ctl("help", command), (0, f"enogatectl [..] GATEWAY {usage}\n", ""))
+        for command, usage, does in (
+            ("backup", "backup [DIRECTORY]", "writes a backup of the devices and the settings"),
+            ("devices", "devices [--plan] [--export | --import [--dry-run]]",
+             "prints the devices, also for spreadsheets"),
+            ("lines", "lines|watch", "prints the output lines"),
+            ("replace", "replace OLD NEW [EEP]", "learns a device in place of a broken one"),
+            ("watch", "lines|watch", "prints the readings as they come"),
+        ):
+            self.assertEqual(run_ctl("help", command), (0, f"enogatectl [..] GATEWAY {usage}\n{does}\n", ""))
         status, out, err = run_ctl("hall", "help")
         self.assertEqual((status, err), (0, ""))
         self.assertEqual([line.split("  ")[0] for line in out.splitlines()],
-                         [*(form for forms in grammar.FORMS_BY_VERB.values() for form, _ in forms), *grammar.PATTERNS])
+                         [*(form for forms in grammar.FORMS_BY_VERB.values() for form, _ in forms), *grammar.COMMANDS,
+                          *grammar.PATTERNS])
         self.assertLessEqual(max(map(len, out.splitlines())), 80)
         for words, text in (("hall help stop x", "'help stop x' is not an order"), ("help list x", "not an order"),
                             ("help --json", "--json cannot be used with help"),
@@ -275,7 +306,7 @@ class ProgramRuns(TimeLimitedTest):
                 self.assertEqual(self.orders, [])
                 run_ctl("--desk", "d", "--lines", "l", "hall", *words.split(" "), why_not_running=why)
                 self.assertNotEqual(self.orders, [])
-        for words in ("devices", "lines", "devices --json"):
+        for words in ("devices", "lines", "devices --json", "devices --plan"):
             self.assertEqual(run_ctl("hall", *words.split(" "), why_not_running=why), (1, "", f"enogatectl: {why}\n"))
 
     def test_devices(self):
@@ -286,16 +317,47 @@ class ProgramRuns(TimeLimitedTest):
         text = "01800ABC,D5-00-01,Door\n01800ABD,D5-00-01,\udcff\n"
         with self.patch_answers(lines, ['{"type":"ok"}']):
             self.assertEqual(run_ctl("hall", "devices", "--import", text=text[:23]),
-                             (0, "line 1: 01800ABC: unchanged\n", ""))
-            status, out, _ = run_ctl("hall", "devices", "--import", text=text)
-            self.assertEqual((status, out.splitlines()[1][:40]), (1, "line 2: 'label 01800ABD \ufffd' is not an ord"))
+                             (0, "row 1: 01800ABC: unchanged\n", ""))
+        with self.patch_answers(lines, ['{"type":"ok"}']):
+            self.assertEqual(run_ctl("hall", "devices", "--import", text=text), (
+                1, "row 1: 01800ABC: unchanged\nrow 2: 01800ABD: learned; label: 'ÿ' is not 1 to 32 ASCII "
+                "characters; possible is 'y'\n", ""))
+        with self.patch_answers(lines):
+            self.assertEqual(run_ctl("hall", "devices", "--import", "--dry-run", text="01800ABD,D5-00-01,Gate\n"),
+                             (0, "row 1: 01800ABD: would be learned and labelled\n", ""))
+            self.assertEqual(self.orders, [["list"]])
+        with self.patch_answers(lines):
+            plan = "id,eep,Room\n01800ABC,D5-00-01,2\n"
+            self.assertEqual(run_ctl("hall", "devices", "--export", "--plan", text=plan),
+                             (0, "id,eep,label,Room\n01800ABC,D5-00-01,Door,2\n", ""))
         with self.patch_answers(lines):
             self.assertEqual(run_ctl("hall", "devices", "--import", text=text[:23], is_terminal=True), (
-                0, "line 1: 01800ABC: unchanged\n", "enogatectl: enter the devices as CSV, and end with Ctrl-D; to "
+                0, "row 1: 01800ABC: unchanged\n", "enogatectl: enter the devices as CSV, and end with Ctrl-D; to "
                 "read a file, append <FILE to the command\n"))
         with self.patch_answers(lines, ['{"error":"full","type":"error"}']):
             status, out, _ = run_ctl("hall", "devices", "--import", text="01800ABE,D5-00-01\n")
-            self.assertEqual((status, out[:57]), (1, "line 1: 01800ABE: `add 01800ABE D5-00-01` was refused: fu"))
+            self.assertEqual((status, out), (1, "row 1: 01800ABE: not learned: 1,000 devices are learned: `remove` one "
+                                             "that is gone\n"))
+
+    def test_the_comparison_with_a_plan(self):
+        """Of the devices that the lines record. It gives no order. A device counts as heard if the bridge has received
+        a telegram, or if one is in the lines."""
+        device = {"id": "01800ABC", "eep": "D5-00-01", "label": "Door", "maker": None, "type": "device"}
+        heard = {"dbm": -45, "eep": "D5-00-01", "id": "01800ABC", "readings": [], "type": "reading"}
+        listed, row = [device, {"count": 1, "type": "list"}], "2    Door   01800ABC  D5-00-01  "
+        plan = "id,eep\n01800ABC,D5-00-01\n"
+        with tempfile.TemporaryDirectory() as folder:
+            lines = pathlib.Path(folder, "lines")
+            for written, state, status in ((listed, "learned, not heard", 1), ([*listed, heard], "heard", 0)):
+                lines.write_text("".join(json.dumps(line, separators=(",", ":")) + "\n" for line in written))
+                heads = "ROW  LABEL  ID        PROFILE   STATE\n"
+                count = f"1 planned, 1 learned, {1 - status} heard, 0 missing\n"
+                self.assertEqual(run_ctl("--desk", "d", "--lines", str(lines), "hall", "devices", "--plan", text=plan),
+                                 (status, f"{heads}{row}{state}\n{count}", ""))
+            with mock.patch.object(recent, "last_seen_times", return_value={"01800ABC": None}):
+                lines.write_text("".join(json.dumps(line, separators=(",", ":")) + "\n" for line in listed))
+                run = run_ctl("--desk", "d", "--lines", str(lines), "hall", "devices", "--plan", text=plan)
+                self.assertEqual(run[0], 0)
 
     def test_replace(self):
         """Each step is printed when it is done. After one that failed there is none."""
@@ -307,8 +369,7 @@ class ProgramRuns(TimeLimitedTest):
         with self.patch_answers(listed, [added], ok, [added.replace("accepted", "deleted")]):
             self.assertEqual(run_ctl(*words), (
                 0, "01800AF0: learned\n01800AF0: labelled\n01800ABD: removed\nLamp was replaced by 01800AF0. If it is "
-                "an actuator, teach it this gateway. Automations and other programs that use the ID need the new "
-                "one.\n", ""))
+                "an actuator, teach it this gateway. Programs that use the ID need the new one.\n", ""))
             self.assertEqual(self.orders, orders)
         for number, printed in enumerate(("", "01800AF0: learned\n", "01800AF0: learned\n01800AF0: labelled\n"), 2):
             answers = [listed, [added], ok][:number - 1] + [['{"error":"store","type":"error"}']]
@@ -379,22 +440,22 @@ class ProgramRuns(TimeLimitedTest):
             '{"eep":"D5-00-01","id":"01800ABC","maker":null,"result":"accepted","type":"teach"}']
         with self.patch_answers(nothing, accepted, accepted, ok):
             status, out, _ = run_ctl("hall", "devices", "--import", text=text)
-            self.assertEqual(self.orders, [["list"], adds, ["label 01800ABC Door"]])
-            self.assertEqual((status, out.splitlines()), (0, ["line 1: 01800ABC: learned and labelled",
-                                                              "line 2: 01800ABD: learned"]))
+            self.assertEqual(self.orders, [["list"], adds, ["label 01800ABC Door"], ["list"]])
+            self.assertEqual((status, out.splitlines()), (0, ["row 1: 01800ABC: learned and labelled",
+                                                              "row 2: 01800ABD: learned"]))
         for name in ("memory", "store"):
             failed = ['{"error":"%s","type":"error"}' % name]
             with self.patch_answers(nothing, failed, accepted, accepted, failed, ok):
                 status, out, _ = run_ctl("hall", "devices", "--import", text=text)
-                self.assertEqual(self.orders, [["list"], adds, adds[:1], adds[1:], ["label 01800ABC Door"]])
-                self.assertEqual((status, out.splitlines()[0]), (1, "line 1: 01800ABC: learned and labelled"))
-                self.assertIn(f"line 2: 01800ABD: `add 01800ABD D5-00-01` was refused: {name}: ", out)
+                self.assertEqual(self.orders, [["list"], adds, adds[:1], adds[1:], ["label 01800ABC Door"], ["list"]])
+                self.assertEqual((status, out.splitlines()[0]), (1, "row 1: 01800ABC: learned and labelled"))
+                self.assertIn(f"row 2: 01800ABD: not learned: {share.texts_by_word('error')[name]}", out)
             with self.patch_answers(nothing, accepted, failed, accepted, accepted, ok):
                 self.assertEqual(run_ctl("hall", "devices", "--import", text=text)[0], 0)
-                self.assertEqual(self.orders, [["list"], adds, adds[:1], adds[1:], ["label 01800ABC Door"]])
+                self.assertEqual(self.orders, [["list"], adds, adds[:1], adds[1:], ["label 01800ABC Door"], ["list"]])
         with self.patch_answers(nothing, ['{"error":"full","type":"error"}']):
             self.assertEqual(run_ctl("hall", "devices", "--import", text=text)[0], 1)
-            self.assertEqual(self.orders, [["list"], adds])
+            self.assertEqual(self.orders, [["list"], adds, ["list"]])
 
     def test_base(self):
         with mock.patch.object(ports, "open_port", return_value=99), mock.patch("os.close") as close, \

@@ -1,12 +1,13 @@
 """The command `lines`: it prints the earlier lines, an empty line, and then each new one."""
 import contextlib
+import errno
 import io
 import os
 import select
 import unittest
 from unittest import mock
 
-from enogate_ctl import following
+from enogate_ctl import client, following
 from enogate_ctl.client import UnreadableLines
 from enogate_ctl.stops import Stopped
 from fakes import GatewayFilesTest
@@ -81,6 +82,14 @@ class PrintedLines(GatewayFilesTest):
         self.desk.unlink()
         why = f"^there are no lines {self.lines}: correct the name of the gateway, or start it$"
         with self.assertRaisesRegex(UnreadableLines, why):
+            self.printed()
+
+    def test_lines_that_this_user_may_not_see(self):
+        """They are not missing: the name of the gateway may be right."""
+        forbidden = PermissionError(errno.EACCES, os.strerror(errno.EACCES))
+        with mock.patch.object(following.os, "stat", side_effect=forbidden), \
+                mock.patch.object(client, "open_file", side_effect=forbidden), \
+                self.assertRaisesRegex(UnreadableLines, "cannot be read: Permission denied; become root, or a member"):
             self.printed()
 
     def test_a_link_or_a_pipe(self):

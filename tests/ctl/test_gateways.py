@@ -86,8 +86,12 @@ class GatewayFolders(TimeLimitedTest):
     def test_a_name_that_is_not_known(self):
         for name, known, why in (
             ("hall", ["attic", "hall"], ""),
-            ("hal", ["attic", "hall"], "there is no gateway hal: the gateways of this machine are attic, hall; to make "
-             "it, enable it: sudo systemctl enable --now enogate@hal"),
+            ("hal", ["attic", "hall"], "there is no gateway hal: did you mean hall? If not, make it: sudo systemctl "
+             "enable --now enogate@hal"),
+            ("HALL", ["Hall", "attic"], "there is no gateway HALL: did you mean Hall? If not, make it: sudo systemctl "
+             "enable --now enogate@HALL"),
+            ("roof", ["attic", "hall"], "there is no gateway roof: the gateways of this machine are attic, hall; to "
+             "make it, enable it: sudo systemctl enable --now enogate@roof"),
             ("hal", [], "there is no gateway hal: this machine has none; to make it, enable it: sudo systemctl enable "
              "--now enogate@hal"),
             ("mqtt-hall", ["hall"], str(InvalidName("mqtt-hall"))),

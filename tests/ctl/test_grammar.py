@@ -40,9 +40,10 @@ class OrderGrammar(TimeLimitedTest):
             ("frob x", "'frob x' is not an order: the orders are learn, add, remove, label, list, status, base, "
              "switch, dim, query, meter, blind, stop, central, level, teach"),
             ("list x", "'list x' is not an order: the form is list"),
-            ("stop", "'stop' is not an order: the form is stop ID (ID: 8 hexadecimal digits)"),
+            ("stop", "'stop' is not an order: the form is stop ID (ID: 8 hexadecimal digits, or the "
+             "label of a device)"),
             ("label 01800ABC ö", "'label 01800ABC ö' is not an order: the form is label ID TEXT | label ID (ID: 8 "
-             "hexadecimal digits; TEXT: 1 to 32 ASCII characters)"),
+             "hexadecimal digits, or the label of a device; TEXT: 1 to 32 ASCII characters)"),
             ("learn", "'learn' is not an order: the form is learn on | learn on answer | learn as EEP | learn off "
              "(EEP: a profile such as D5-00-01)"),
         ):

@@ -66,7 +66,8 @@ class CommandImports(GatewayFilesTest):
         self.assertEqual(self.imported("list", lines=LIST_ANSWER), (ORDER_MODULES | TABLE_MODULES, large))
         self.assertEqual(self.imported("devices"), (ORDER_MODULES | TABLE_MODULES | {"enogate_ctl.recorded"}, large))
         self.assertEqual(self.imported("devices", "--export", lines=LIST_ANSWER), (
-            ORDER_MODULES | {"enogate_ctl.sheet"}, {"csv", "dataclasses", "inspect"}))
+            ORDER_MODULES | {"enogate_ctl.plan", "enogate_ctl.sheet", "enogate_ctl.tables", "enogate_ctl.words"},
+            {"csv"}))
 
     def test_the_server_has_imported_what_its_commands_need(self):
         self.write(*LIST_ANSWER)

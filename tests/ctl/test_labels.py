@@ -56,6 +56,22 @@ class LabelArguments(TimeLimitedTest):
                       ["central", "Lamp", "on"], ["learn", "Lamp"], ["label", "Lamp", "ö"], ["stop", "\x1b[2J"]):
             self.assertRaises(InvalidOrder, order_and_label, words)
 
+    def test_what_may_be_meant(self):
+        """A label of several words, or an order without its channel. A shell takes it as it is shown."""
+        for words, wanted in (
+            (["switch", "Bath", "lamp", "0", "on"], "switch 'Bath lamp' 0 on"),
+            (["blind", "Kitchen", "blind", "left", "50"], "blind 'Kitchen blind left' 50"),
+            (["stop", "Kitchen", "blind"], "stop 'Kitchen blind'"), (["switch", "Lamp", "on"], "switch Lamp 0 on"),
+            (["query", "Bath lamp"], "query 'Bath lamp' 0"), (["switch", "$(reboot)", "x", "0", "on"],
+                                                              "switch '$(reboot) x' 0 on"),
+        ):
+            with self.assertRaises(InvalidOrder) as found:
+                order_and_label(words)
+            self.assertEqual(str(found.exception), f"{' '.join(words)!r} is not an order: did you mean `{wanted}`?")
+        for words in (["switch", "Lamp", "up"], ["stop", "ö"], ["switch"], ["dim", "Lamp", "0", "50", "x"]):
+            with self.assertRaisesRegex(InvalidOrder, "the form is"):
+                order_and_label(words)
+
     def test_an_order_with_a_label_is_no_order_yet(self):
         """A gateway would refuse it."""
         for label in ("Lamp", *HOSTILE_LABELS):

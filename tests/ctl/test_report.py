@@ -9,7 +9,8 @@ from unittest import mock
 from enogate_ctl import main as program
 from enogate_ctl.client import LONG_PAUSE, PAUSE, Client, Lines, NoAnswer
 from enogate_ctl.command_line import REPORT_TIMEOUT, BLIND_REPORT_TIMEOUT, REPORT_TIMEOUTS, parsed
-from enogate_ctl.report import is_report, report_in
+from enogate_ctl.report import is_report, missing_channel, report_in
+from enogate_lines.contents import Listed
 from enogate_tools import share
 from fakes import OK, GatewayFilesTest, TimeLimitedTest, error, packet, reading, status
 
@@ -72,6 +73,17 @@ class ReportRules(TimeLimitedTest):
         self.assertTrue(report_in(line_of(state(eep="D2-01-00")), order))
         self.assertIsNone(report_in(line_of(state(1, eep="D2-01-00")), order))
         self.assertFalse(is_report(report_in(line_of(state()), order).telegram, "switch 01800AB 0 on"))
+
+    def test_a_channel_that_the_device_does_not_have(self):
+        """People count from 1."""
+        devices = [Listed(device, eep, "", None) for device, eep in
+                   (("01800ABC", "D2-01-0F"), ("01800ABE", "D2-01-12"), ("01800ABF", "D2-01-09"), (BLIND, "D2-05-00"))]
+        one, two = "it has only the channel 0", "it has only the channels 0, 1"
+        for order, why in (("switch 01800ABC 1 on", one), ("query 01800abe 2", two), ("dim 01800ABF 1 50", one),
+                           ("meter 01800ABE 29 power", two), ("switch 01800ABC 0 on", ""), ("dim 01800ABE 1 5", ""),
+                           ("switch 01800ABE 30 on", ""), ("switch 01800AFF 1 on", ""), (f"blind {BLIND} 50", ""),
+                           (f"stop {BLIND}", ""), (f"query {BLIND} 1", "")):
+            self.assertEqual(missing_channel(order, devices), why, order)
 
     def test_a_telegram_without_a_channel(self):
         """Its device was learned with another profile meanwhile."""
@@ -141,6 +153,13 @@ class ReportWaits(GatewayFilesTest):
         self.at(1, *ANSWER, state(1), state(device="01800ABE"))
         self.assertEqual(self.order(), self.silence(DEVICE, 3))
         self.assertAlmostEqual(self.clock.now, PAUSE + REPORT_TIMEOUT, delta=LONG_PAUSE + 0.001)
+
+    def test_the_channels_are_those_of_the_recorded_profile(self):
+        self.write({"eep": "D2-01-0F", "id": DEVICE, "label": "", "maker": None, "type": "device"},
+                   {"count": 1, "type": "list"})
+        self.at(1, *ANSWER)
+        self.assertEqual(self.order("switch 01800ABC 1 on"), (4, "", (
+            "enogatectl: sent, but 01800ABC reported nothing within 3 s: it has only the channel 0\n")))
 
     def test_the_last_moment(self):
         pauses = round(0.5 / LONG_PAUSE) + 1

@@ -199,8 +199,7 @@ class UnknownGatewayNames(FakeMachineTest):
 
     def test_a_name_that_no_gateway_has(self):
         self.put("etc/default/enogate-attic", "")
-        text = ("there is no gateway Hall: the gateways of this machine are attic, hall; to make it, enable it: sudo "
-                "systemctl enable --now enogate@Hall")
+        text = "there is no gateway Hall: did you mean hall? If not, make it: sudo systemctl enable --now enogate@Hall"
         self.assertEqual(self.unknown("Hall"), text)
         self.assertEqual((self.why(paths_of("Hall", str(self.root))), self.asked), (text, []))
 

@@ -1,18 +1,16 @@
 """Devices as CSV."""
-import json
 import unittest
-from unittest import mock
 
 from enogate_ctl import sheet
-from enogate_ctl.answers import Answer, parse_line
-from enogate_ctl.client import PAUSE
-from enogate_ctl.sheet import MAX_GROUP_ROWS, InvalidRow, DeviceRow
+from enogate_ctl.sheet import DeviceRow, InvalidRow, Sheet, ascii_spelling, decoded
 from enogate_lines.contents import Listed
-from fakes import OK, Clock, TimeLimitedTest, error
+from fakes import TimeLimitedTest
 
-ADD = "the form is add ID EEP (ID: 8 hexadecimal digits; EEP: a profile such as D5-00-01)"
-LABEL = "the form is label ID TEXT | label ID (ID: 8 hexadecimal digits; TEXT: 1 to 32 ASCII characters)"
 LABELS = ("Front door, \"A\" <b>", "=1+1", "'=1", "''+x", "-5C", "@home", "+", "'x", "", "a;b", "x" * 32)
+SPELLINGS = (("Küche", "Kueche"), ("Tür Büro", "Tuer Buero"), ("Straße", "Strasse"), ("KÜCHE", "KUECHE"),
+             ("Ä", "AE"), ("Entrée à côté", "Entree a cote"), ("Łódź", "odz"), ("Ku\u0308che", "Kueche"),
+             ("Büro – Fenster", "Buero Fenster"), ("a\u00a0b\tc", "a b c"), ("日本", ""), (" é ", "e"),
+             ("ü" * 40, "ue" * 16), ("x" * 31 + " ü", "x" * 31))
 
 
 def listed(*labels):
@@ -23,7 +21,7 @@ class CsvRows(TimeLimitedTest):
     maxDiff = None
 
     def rows(self, text):
-        return [(number, str(row) if isinstance(row, InvalidRow) else row) for number, row in sheet.rows_in(text)]
+        return [(number, str(row) if isinstance(row, InvalidRow) else row) for number, row in Sheet(text).rows()]
 
     def test_export(self):
         self.assertEqual(sheet.devices_as_csv(listed("Door, \"A\"", "=x", "")),
@@ -37,7 +35,7 @@ class CsvRows(TimeLimitedTest):
 
     def test_round_trip(self):
         devices = listed(*LABELS)
-        self.assertEqual([row for _, row in sheet.rows_in(sheet.devices_as_csv(devices))],
+        self.assertEqual([row for _, row in Sheet(sheet.devices_as_csv(devices)).rows()],
                          [DeviceRow(device.device, device.eep, device.label) for device in devices])
 
     def test_separators_headings_and_empty_rows(self):
@@ -47,7 +45,8 @@ class CsvRows(TimeLimitedTest):
                 text = f"{start}ID,EEP, Label\r\n01800abc , d5-00-01,Door\r\n,,\r\n01800ABD,D5-00-01\r\n"
                 self.assertEqual(self.rows(text.replace(",", separator)), wanted)
         self.assertEqual(self.rows("01800ABC,D5-00-01,Door"), [(1, wanted[0][1])])
-        self.assertEqual(self.rows("id,eep,label,floor\n01800ABC,D5-00-01,Door,2\n"), [(2, wanted[0][1])])
+        self.assertEqual(self.rows("id,eep,label,floor\n01800ABC,D5-00-01,Door,2\n"),
+                         [(2, DeviceRow("01800ABC", "D5-00-01", "Door", "", ("2",)))])
         self.assertEqual(self.rows(""), [])
 
     def test_leading_zeros(self):
@@ -58,15 +57,17 @@ class CsvRows(TimeLimitedTest):
     def test_numbers_with_an_exponent(self):
         for device in ("1.80E+15", "1,80E+15", "1.8e15", "2E+10"):
             self.assertEqual(self.rows(f'"{device}",D5-00-01'), [(1, (
-                f"a spreadsheet changed the ID to the number {device}: enter it again, in a column with the format "
+                f"id: a spreadsheet changed the ID to the number {device}: enter it again, in a column with the format "
                 "Text"))])
 
     def test_rows_of_no_device(self):
         for text, reason in (
-            ("x,D5-00-01", f"'add X D5-00-01' is not an order: {ADD}"),
-            ("01800ABC", f"'add 01800ABC ' is not an order: {ADD}"),
-            ("01800ABC,D5-00-01," + 33 * "x", f"'label 01800ABC {33 * 'x'}' is not an order: {LABEL}"),
-            ('01800ABC,D5-00-01,"a\nlist"', f"'label 01800ABC a\\nlist' is not an order: {LABEL}"),
+            ("x,D5-00-01", "id: 'x' is not the ID of a device: 8 hexadecimal digits"),
+            (",D5-00-01", "id: '' is not the ID of a device: 8 hexadecimal digits"),
+            ("ffffffff,D5-00-01", "id: 'ffffffff' is not the ID of a device: 8 hexadecimal digits"),
+            ("01800ABC", "eep: '' is not a profile such as D5-00-01"),
+            ("01800ABC,D5-00", "eep: 'D5-00' is not a profile such as D5-00-01"),
+            ("01800ABC,D5-00-01-01", "eep: 'D5-00-01-01' is not a profile such as D5-00-01"),
         ):
             with self.subTest(text):
                 self.assertEqual([row for _, row in self.rows(text)], [reason])
@@ -79,110 +80,89 @@ class CsvRows(TimeLimitedTest):
         self.assertEqual(rows, [(1, "not CSV: field larger than field limit (200)"),
                                 (2, DeviceRow("01800ABC", "D5-00-01", ""))])
 
+    def test_ids_and_profiles_as_planners_write_them(self):
+        for device in ("01:80:0A:BC", "0x01800ABC", "01 80 0a bc", "01-80-0A-BC", "0X01.80.0A.BC", "01800ABC"):
+            for eep in ("D50001", "d5-00-01", "EEP D5-00-01", "D5:00:01", "D5 00 01", "D5_00_01", "D5/00/01"):
+                self.assertEqual(self.rows(f"{device},{eep}"), [(1, DeviceRow("01800ABC", "D5-00-01", ""))])
 
-class DeviceImports(TimeLimitedTest):
-    def setUp(self):
-        self.orders, self.lines, self.refused, self.groups = [], [], {}, []
+    def test_heads_in_any_sequence(self):
+        """In English or German, with or without case, spaces and marks. Other columns are kept."""
+        wanted = DeviceRow("01800ABC", "D5-00-01", "Door", "", ("2.14", ""))
+        for heads in ("Room,Name,EEP,EnOcean-ID,Notes", "Raum,Bezeichnung,EEP-Profil,Geräte-ID,Bemerkung",
+                      "room,Geraet,Equipment profile,CHIP_ID,remarks", "Raum,Name,Profil,Geraete-ID,x",
+                      "Ort,Gerät,Profil,Sender ID,x"):
+            with self.subTest(heads):
+                found = Sheet(heads + "\n2.14,Door,D5-00-01,01800ABC\n")
+                self.assertEqual(list(found.rows()), [(2, wanted)])
+                self.assertEqual(found.other_heads, (heads.split(",")[0], heads.split(",")[4]))
 
-    def give(self, orders):
-        self.assertNotEqual(orders, [])
-        self.orders += orders
-        self.groups.append(len(orders))
-        return [self.refused.get(order) for order in orders]
+    def test_a_column_without_a_label(self):
+        self.assertEqual(self.rows("eep,id\nD5-00-01,01800ABC\n"), [(2, DeviceRow("01800ABC", "D5-00-01", ""))])
 
-    def run_import(self, text, *known):
-        devices = {device.device: device for device in known}
-        return sheet.DeviceImporter(devices, self.give, self.lines.append).run(text)
+    def test_another_head_below(self):
+        """Two sheets in one file."""
+        self.assertEqual(self.rows("eep,id\nD5-00-01,01800ABC\nid,room,eep\n01800ABD,1,D5-00-01\n"),
+                         [(2, DeviceRow("01800ABC", "D5-00-01", "")),
+                          (4, DeviceRow("01800ABD", "D5-00-01", "", "", ("1",)))])
 
-    def test_new_devices(self):
-        self.assertTrue(self.run_import("01800ABC,D5-00-01,Door\n01800ABD,F6-02-01\n"))
-        self.assertEqual(self.orders, ["add 01800ABC D5-00-01", "add 01800ABD F6-02-01", "label 01800ABC Door"])
-        self.assertEqual(self.lines, ["line 1: 01800ABC: learned and labelled", "line 2: 01800ABD: learned"])
+    def test_a_head_that_lacks_a_column(self):
+        """No row is taken: its values would be taken for others."""
+        for heads, what in (("Kennung,Profil,Name", "IDs: its head can be one of id, deviceid, enoceanid, senderid"),
+                            ("ID,Typ,Name", "profiles: its head can be one of eep, profile, equipmentprofile"),
+                            (",,\nName", "IDs: its head can be one of id")):
+            with self.subTest(heads):
+                (number, why), = self.rows(heads + "\n01800ABC,D5-00-01,Door\n")
+                self.assertEqual(number, heads.count("\n") + 1)
+                self.assertTrue(str(why).startswith(f"no column has the {what}"), why)
 
-    def test_known_devices(self):
-        known = Listed("01800ABC", "D5-00-01", "Door", 70)
-        self.assertTrue(self.run_import("01800abc,d5-00-01,Door\n01800ABC,D5-00-01,\n01800ABC,D5-00-01,Gate\n"
-                                        "01800ABC,F6-02-01,Gate\n01800ABC,F6-02-01,Gate\n", known))
-        self.assertEqual(self.orders, ["label 01800ABC Gate", "add 01800ABC F6-02-01"])
-        self.assertEqual(self.lines, ["line 1: 01800ABC: unchanged", "line 2: 01800ABC: unchanged",
-                                      "line 3: 01800ABC: labelled", "line 4: 01800ABC: learned",
-                                      "line 5: 01800ABC: unchanged"])
+    def test_two_columns_for_one_value(self):
+        """The first one counts."""
+        self.assertEqual(self.rows("Gerät,Name,ID,EEP\nDoor,x,01800ABC,D5-00-01\n"),
+                         [(2, DeviceRow("01800ABC", "D5-00-01", "Door", "", ("x",)))])
 
-    def test_a_label_that_is_kept(self):
-        self.assertTrue(self.run_import("01800ABC,F6-02-01\n01800ABC,F6-02-01,Door\n",
-                                        Listed("01800ABC", "D5-00-01", "Door", None)))
-        self.assertEqual(self.orders, ["add 01800ABC F6-02-01"])
+    def test_a_later_row_with_the_name_of_a_column(self):
+        """It is no head, even if it has no ID."""
+        self.assertEqual(self.rows("id,eep,label\nx,D5-00-01,Name\n01800ABC,D5-00-01,Profil\n"), [
+            (2, "id: 'x' is not the ID of a device: 8 hexadecimal digits"),
+            (3, DeviceRow("01800ABC", "D5-00-01", "Profil"))])
 
-    def test_it_goes_on_after_an_error(self):
-        self.refused = {"add 01800ABC D5-00-99": "unsupported_profile: why", "label 01800ABD x": "store: why"}
-        self.assertFalse(self.run_import("01800ABC,D5-00-99,x\n01800ABD,D5-00-01,x\nx\n01800ABE,D5-00-01\n"))
-        self.assertEqual(self.orders, ["add 01800ABC D5-00-99", "add 01800ABD D5-00-01", "add 01800ABE D5-00-01",
-                                       "label 01800ABD x"])
-        self.assertEqual(self.lines, [
-            "line 1: 01800ABC: `add 01800ABC D5-00-99` was refused: unsupported_profile: why",
-            "line 2: 01800ABD: `label 01800ABD x` was refused: store: why",
-            f"line 3: 'add X ' is not an order: {ADD}", "line 4: 01800ABE: learned"])
-        self.assertFalse(self.run_import("x\n01800ABE,D5-00-01\n"))
-        self.assertFalse(self.run_import("x\n"))
+    def test_a_first_row_that_is_a_device(self):
+        """Also if its label is the name of a column."""
+        self.assertEqual(self.rows("01800ABC,D5-00-01,Name"), [(1, DeviceRow("01800ABC", "D5-00-01", "Name"))])
 
-    def test_groups(self):
-        """So many rows are handled at once. A device that occurs again begins a group."""
-        self.assertEqual(MAX_GROUP_ROWS, 100)
-        rows = [f"{number:08X},D5-00-01,Lamp {number}" for number in range(235)]
-        self.assertTrue(self.run_import("\n".join(rows)))
-        self.assertEqual(self.groups, [100, 100, 100, 100, 35, 35])
-        self.assertEqual(self.lines, [f"line {number + 1}: {number:08X}: learned and labelled"
-                                      for number in range(235)])
-        self.assertEqual((self.orders[100], self.orders[-1]), ("label 00000000 Lamp 0", "label 000000EA Lamp 234"))
-        self.setUp()
-        rows = ["01800ABC,D5-00-01,Door", "x", "01800ABD,D5-00-01", "01800ABC,F6-02-01,Gate", "01800ABD,F6-02-01"]
-        self.assertFalse(self.run_import("\n".join(rows)))
-        self.assertEqual(self.groups, [2, 1, 2, 1])
-        self.assertEqual(self.orders, ["add 01800ABC D5-00-01", "add 01800ABD D5-00-01", "label 01800ABC Door",
-                                       "add 01800ABC F6-02-01", "add 01800ABD F6-02-01", "label 01800ABC Gate"])
-        self.assertEqual([line[:16] for line in self.lines], [
-            "line 1: 01800ABC", "line 2: 'add X '", "line 3: 01800ABD", "line 4: 01800ABC", "line 5: 01800ABD"])
+    def test_a_line_that_names_the_separator(self):
+        self.assertEqual(self.rows("sep=;\r\neep;id\r\nD5-00-01;01800ABC\r\n"),
+                         [(3, DeviceRow("01800ABC", "D5-00-01", ""))])
+        self.assertEqual(self.rows("sep=;\n01800ABC;D5-00-01;a,b\n"), [(2, DeviceRow("01800ABC", "D5-00-01", "a,b"))])
 
-    def test_no_devices(self):
-        """An export writes the heading even without devices: an empty input is that of an export that failed."""
-        for text, succeeds in (("", False), ("\n", False), ("id,eep,label\n", True)):
-            self.assertEqual(self.run_import(text), succeeds)
-        self.assertEqual((self.orders, self.lines), ([], ["the input has no devices"] * 3))
+    def test_encodings(self):
+        """As spreadsheets write them. German letters have other bytes in each."""
+        text = "Geräte-ID;EEP\n"
+        for data in (text.encode(), text.encode("utf-8-sig"), text.encode("cp1252"), text.encode("utf-16")):
+            self.assertEqual(Sheet(decoded(data)).text, text)
+        self.assertEqual(decoded(b"\x81"), "\ufffd")
 
+    def test_numbers_of_rows(self):
+        """As a spreadsheet counts them: a cell with two lines is in one row."""
+        self.assertEqual(self.rows('id,eep,note\n\n01800ABC,D5-00-01,"a\nb"\nx,D5-00-01\n'), [
+            (3, DeviceRow("01800ABC", "D5-00-01", "", "", ("a\nb",))),
+            (4, "id: 'x' is not the ID of a device: 8 hexadecimal digits")])
 
-class BatchSizes(TimeLimitedTest):
-    """The orders of an import at a desk that needs so many seconds for each of them."""
+    def test_labels_that_the_gateway_cannot_store(self):
+        for label, possible in (("Küche", "Kueche"), ("x" * 33, "x" * 32), ("a\nlist", "a list"), ("日本", "")):
+            hint = f"; possible is {possible!r}" if possible else ""
+            self.assertEqual(self.rows(f'01800ABC,D5-00-01,"{label}"'), [(1, DeviceRow(
+                "01800ABC", "D5-00-01", "", f"label: {label!r} is not 1 to 32 ASCII characters{hint}"))])
 
-    def setUp(self):
-        self.clock, self.orders, self.parts, self.seconds, self.errors = Clock(), [], [], 0.0, {}
-        self.giver = sheet.OrderBatches(mock.Mock(clock=self.clock, sleep=self.clock.sleep, ask_all=self.ask_all))
+    def test_spellings(self):
+        """The page has the same: tests/page/label.test.mjs."""
+        for text, wanted in SPELLINGS:
+            self.assertEqual(ascii_spelling(text), wanted)
 
-    def ask_all(self, orders):
-        self.clock.now += self.seconds * len(orders)
-        self.orders += orders
-        self.parts.append(len(orders))
-        lines = [error(self.errors[order]) if order in self.errors else OK for order in orders]
-        return [Answer([parse_line(json.dumps(line).encode())]) for line in lines]
-
-    def test_a_slow_gateway_gets_fewer_orders_at_once(self):
-        orders = list(map(str, range(250)))
-        for seconds, parts in ((0.0, [16, 100, 100, 34]), (0.01, [16, 100, 100, 34]), (0.09, [16] + 10 * [22] + [14]),
-                               (0.3, [16] + 39 * [6]), (5.0, [16] + 234 * [1])):
-            self.setUp()
-            self.seconds = seconds
-            self.assertEqual([answer.error for answer in self.giver.give(orders)], [None] * 250)
-            self.assertEqual((self.orders, self.parts), (orders, parts))
-            self.assertEqual(self.clock.slept, [2 * PAUSE] * len(parts))
-
-    def test_an_error_that_telegrams_have_too(self):
-        """Each order of its part is given again. Another error is that of its order."""
-        orders = list(map(str, range(20)))
-        self.errors = {"1": "range", "3": "store", "17": "range"}
-        self.seconds = 0.09
-        found = [answer.error for answer in self.giver.give(orders)]
-        self.assertEqual(found, [self.errors.get(order) for order in orders])
-        self.assertEqual((self.orders, self.parts), (orders[:16] * 2 + orders[16:], [16, *[1] * 16, 4]))
-        self.assertEqual(self.clock.slept, [2 * PAUSE] * 18)
+    def test_other_columns_in_an_export(self):
+        others = {"01800A00": ("2.14", "=x"), "01800AFF": ("1", "")}
+        self.assertEqual(sheet.devices_as_csv(listed("Door", ""), ("Room", "Notes"), others),
+                         "id,eep,label,Room,Notes\n01800A00,D5-00-01,Door,2.14,'=x\n01800A01,D5-00-01,,,\n")
 
 
 if __name__ == "__main__":
