@@ -57,9 +57,10 @@ class Machine:
         os.makedirs("/var/lib/enogate-mqtt", exist_ok=True)
         mount("--bind", work / "lib/enogate-mqtt", "/var/lib/enogate-mqtt")
         os.makedirs("/var/lib/enogate", exist_ok=True)
-        for folder in ("/var/lib/enogate", "/etc/default", "/etc/systemd/system"):
+        for folder in ("/var/lib/enogate", "/etc/default", "/etc/systemd/system", "/var/backups"):
             mount("-t", "tmpfs", "test", folder)
-        os.mkdir("/etc/systemd/system/multi-user.target.wants")
+        for folder in ("/etc/systemd/system/multi-user.target.wants", "/var/backups/enogate"):
+            os.mkdir(folder)
         self.mount_devices()
         shutil.copy(CONTRIB / "enogate.default", "/etc/default/enogate")
         (work / "bin/enogatectl").symlink_to(CONTRIB / "enogatectl")

@@ -9,6 +9,8 @@ import os
 import pathlib
 import re
 import ssl
+import subprocess
+import tarfile
 import unittest
 from dataclasses import dataclass
 from typing import Callable
@@ -20,6 +22,8 @@ from programs import wait_for
 from services import CONTRIB
 
 ROOT = pathlib.Path(os.environ.get("ROOT", "/nonexistent"))
+# The command that runs another one on the system.
+ENTER = os.environ.get("ENTER", "false").split()
 SCREENSHOTS = os.environ.get("SCREENSHOTS")
 HOST, PORT = "127.0.0.1", 9090
 FILES = "/cockpit/@localhost/enogate/"
@@ -83,6 +87,12 @@ def uid_of(user: str) -> int:
     """The number of a user of the system."""
     [found] = re.findall(f"^{user}:[^:]*:([0-9]+):", (ROOT / "etc/passwd").read_text(), re.MULTILINE)
     return int(found)
+
+
+def inside(*words: str) -> str:
+    """What a command prints on the system, also if it fails."""
+    return subprocess.run([*ENTER, *words], stdout=subprocess.PIPE, stderr=subprocess.STDOUT, text=True,
+                          check=False).stdout.strip()
 
 
 def reported_mode() -> str:
@@ -177,9 +187,11 @@ class PageInShell(unittest.TestCase):
         self.enter_frame()
 
     def assert_is_read_only(self) -> None:
-        """No button works, the page says why, and an order with administrative rights is refused."""
-        self.wait_for_text("#read-only", "You can look, but not change anything.")
-        for name in ("teach-open", "teach-close", "gateway-refresh", "gateway-restart"):
+        """No button works, the page says why, and an order with administrative rights is refused. Users of this test
+        who may give no orders may not read the lines either."""
+        self.wait_for_text("#read-only", "You can see nothing, since the lines cannot be read.")
+        for name in ("teach-open", "teach-close", "gateway-refresh", "gateway-restart", "gateway-backup",
+                     "gateway-setup"):
             self.assertFalse(self.browser.find(f"#{name}").is_enabled(), name)
         self.assert_is_not_root()
 
@@ -250,7 +262,8 @@ class PageInShell(unittest.TestCase):
     def test_a_member_of_the_group_gives_orders_without_becoming_root(self):
         self.log_in(*GROUP_MEMBER)
         self.wait(lambda: self.browser.find("#gateway-refresh").is_enabled())
-        self.assertFalse(self.browser.find("#gateway-restart").is_enabled())
+        for name in ("restart", "backup", "setup"):
+            self.assertFalse(self.browser.find(f"#gateway-{name}").is_enabled(), name)
         self.assert_is_not_root()
         self.turn_on_administrative_access(GROUP_MEMBER[1])
         self.wait_for_text(".pf-c-modal-box", "Problem becoming administrator")
@@ -263,6 +276,56 @@ class PageInShell(unittest.TestCase):
         self.assertEqual(order_processes("root"), [])
         self.shoot("member")
         self.rename("Front door")
+
+    def log_in_as_administrator(self) -> None:
+        """Logs in as a user with administrative access."""
+        self.log_in(*ADMINISTRATOR, state="lost")
+        self.turn_on_administrative_access(ADMINISTRATOR[1])
+        self.enter_frame()
+        self.wait_for_text("#feed", "live")
+
+    def test_an_administrator_sets_up_a_gateway_that_is_started_now_and_at_each_boot(self):
+        """Its stick is a terminal: the settings and the unit are real, and only the driver of a stick is not tried."""
+        port, unit, settings = "/dev/enocean-yard", "enogate@yard.service", ROOT / "etc/default/enogate-yard"
+        self.addCleanup(settings.unlink, missing_ok=True)
+        self.addCleanup(inside, "systemctl", "disable", "--now", unit)
+        self.assertNotEqual(inside("systemctl", "is-enabled", unit), "enabled")
+        self.log_in_as_administrator()
+        self.wait(lambda: self.browser.find("#gateway-setup").is_enabled())
+        self.browser.click("#gateway-setup")
+        self.wait(lambda: self.browser.find("#setup-go").is_enabled())
+        self.assertEqual(self.browser.find("#setup-port").get_attribute("value"), port)
+        self.browser.type("#setup-name", "yard")
+        self.browser.click("#setup-look")
+        self.wait_for_text("#setup-result", "Its base ID is FF801000.")
+        self.shoot("set-up")
+        self.browser.click("#setup-go")
+        self.wait_for_text("#gateways [aria-selected=true]", "yard")
+        self.wait_for_text("#gateway-stick", f"plugged in ({port})")
+        self.assertEqual(self.browser.text("#gateways"), "hallyard")
+        self.assertEqual((settings.read_text(), oct(settings.stat().st_mode), settings.owner()),
+                         (f"SERIAL={port}\n", "0o100644", "root"))
+        self.assertEqual([inside("systemctl", verb, unit) for verb in ("is-enabled", "is-active")],
+                         ["enabled", "active"])
+        self.wait_for_text("#gateway-service", "running")
+        self.wait_for_text("#gateway-module", "FF801000, reported")
+        self.wait_for_text("#feed", "live")
+        self.assertEqual(inside("enogatectl", "--timeout", "30", "yard", "base"), "FF801000")
+
+    def test_an_administrator_makes_a_backup_and_the_group_may_not(self):
+        refused = inside("runuser", "-u", GROUP_MEMBER[0], "--", "enogatectl", "hall", "backup")
+        self.assertRegex(refused, "the backup in /var/backups/enogate failed: .*Permission denied")
+        self.log_in_as_administrator()
+        self.wait(lambda: self.browser.find("#gateway-backup").is_enabled())
+        self.browser.click("#gateway-backup")
+        self.wait_for_text("#gateway-note", "tar.gz: 1 devices")
+        [path] = (ROOT / "var/backups/enogate").iterdir()
+        self.assertEqual(self.browser.text("#gateway-note"), f"Backup written: /{path.relative_to(ROOT)}: 1 devices")
+        self.assertEqual(path.stat().st_uid, uid_of("enogate"))
+        with tarfile.open(path) as archive:
+            self.assertIn(b"01800ABC,D5-00-01,Front door", archive.extractfile("devices.csv").read())
+            self.assertIn("etc/default/enogate-hall", archive.getnames())
+        self.shoot("backup")
 
     def test_another_user_is_told_that_the_lines_cannot_be_read(self):
         self.log_in(*OTHER_USER, state="lost")

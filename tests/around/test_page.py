@@ -10,6 +10,7 @@ import re
 import shutil
 import signal
 import subprocess
+import tarfile
 import tempfile
 import time
 import unittest
@@ -38,8 +39,9 @@ const words = new Map(Array.from({ length: 40000 }, (_, number) => [`${number * 
 return performance.now() - begun;
 """
 ROUNDS = 3
-# The page uses 1.9 to 2.0 MB in this test, with the 500 senders that it keeps.
-MAX_HEAP_BYTES = 2_500_000
+# The page uses 1.9 MB if this test runs by itself: 0.2 MB are the 500 senders and 500 packets that it keeps, and the
+# rest is constant. In whole runs it was 2.0 MB, and once 2.4 MB.
+MAX_HEAP_BYTES = 2_600_000
 EARLIER_PACKET = ('{"dbm":-45,"dest":null,"eep":null,"id":"01800A07","maker":null,"payload":"50","rorg":"F6",'
                   '"status":"30","type":"packet","why":"unknown_sender"}\n')
 PRESS, RELEASE = "F6 50 30", "F6 00 20"
@@ -92,11 +94,20 @@ GET_MENU_WORDS = "const [done] = arguments; fetch('../*/po.js').then(response =>
 FIND_CUT_RESULTS = """
 const box = document.querySelector(".short").getBoundingClientRect();
 return [...document.querySelectorAll("#teach-rows tr")].filter(row => {
-    const { top, bottom } = row.getBoundingClientRect();
-    return top < box.bottom - 1 && bottom > box.bottom + 1 ||
-        row.querySelector(".why").getBoundingClientRect().bottom > bottom;
+    const [{ top, bottom }, why, button] = [row, ...row.querySelectorAll(".why, button")]
+        .map(part => part.getBoundingClientRect());
+    return top < box.bottom - 1 && bottom > box.bottom + 1 || Math.max(why.bottom, button.bottom) > bottom ||
+        button.width > 0 && why.right > button.left;
 }).map(row => row.textContent);
 """
+# How many results are on the screen without scrolling the list.
+COUNT_VISIBLE_RESULTS = """
+const { bottom } = document.querySelector(".short").getBoundingClientRect();
+return [...document.querySelectorAll("#teach-rows tr")].filter(row => row.getBoundingClientRect().bottom < bottom + 1)
+    .length;
+"""
+# A 4BS teach-in telegram without a profile.
+NO_PROFILE = "A5 00000000"
 # The page forgets which gateway was open last.
 FORGET_GATEWAY = "sessionStorage.clear(); localStorage.removeItem('enogate-gateway')"
 # A stand-in for enogatectl, which finds no gateway before the settings of one are written.
@@ -157,14 +168,15 @@ def ctl_program() -> pathlib.Path:
 
 
 def running(*words: str) -> set[int]:
-    """The processes of enogatectl that have all of these words on their command lines."""
+    """The processes of enogatectl that have all of these words on their command lines. One that only keeps the desk
+    locked until no answer can come any more does not count: it has a session of its own, and may outlive its page."""
     found = set()
     for path in pathlib.Path("/proc").glob("[0-9]*/cmdline"):
         with contextlib.suppress(OSError):
-            given = path.read_text().split("\0")
+            given, process = path.read_text().split("\0"), int(path.parent.name)
             is_command = any(one.startswith(f"{work}/") and one.endswith("/bin/enogatectl") for one in given)
-            if is_command and set(words) <= set(given):
-                found.add(int(path.parent.name))
+            if is_command and set(words) <= set(given) and os.getsid(process) != process:
+                found.add(process)
     return found
 
 
@@ -236,6 +248,10 @@ class PageTest(unittest.TestCase):
         """The selector of the row of a device."""
         return f"#{section}-rows [data-id='{device}']"
 
+    def value(self, selector: str) -> str:
+        """What a field or a list has."""
+        return str(browser.find(selector).get_property("value"))
+
     def ids(self, section: str) -> list[str]:
         """The devices of the rows that are shown."""
         script = "return [...document.querySelectorAll(arguments[0])].map(row => row.dataset.id)"
@@ -264,6 +280,60 @@ class PageTest(unittest.TestCase):
         """Presses the button with this text in an element."""
         script = "return [...arguments[0].querySelectorAll('button')].find(one => one.textContent === arguments[1])"
         browser.run(script, browser.find(selector), name).click()
+
+    def result(self, device: str) -> str:
+        """The selector of a result of the learn window for a device."""
+        return f"#teach-rows tr:has([href='#/device/{device}'])"
+
+    def label_at_result(self, device: str, label: str) -> None:
+        """Labels a device at its result in the learn window, and opens its view by the new label."""
+        self.tab("add")
+        self.wait_for_text(self.result(device), f"(no label){device}", "learned", "Label …")
+        browser.click(self.result(device) + " button")
+        self.wait_for_text("#edit-id", device)
+        browser.type("#edit-label", label)
+        browser.click("#edit-save")
+        self.wait_for_text(self.result(device) + " .label", label)
+        self.assertIn(f'"id":"{device}","label":"{label}"', ctl("list"))
+        self.open_by_label(self.result(device), device, label)
+
+    def open_by_label(self, row: str, device: str, label: str) -> None:
+        """Opens the view of a device by a click on its label in a row."""
+        browser.click(f"{row} .label")
+        self.wait_for_text("#device-label", label)
+        self.assertEqual(browser.text("#device-id"), device)
+        self.assertEqual(browser.run("return location.hash"), f"#/device/{device}")
+
+    def learn_by_id(self, device: str, label: str) -> None:
+        """Learns a device that has sent nothing yet."""
+        self.tab("add")
+        browser.click("#learn-by-id")
+        self.assertEqual(browser.run("return document.activeElement.id"), "learn-new")
+        self.assertGreater(len(Select(browser.find("#learn-profile")).options), 60)
+        browser.type("#learn-new", device[:-1])
+        browser.click("#learn-go")
+        message = browser.run("return document.querySelector('#learn-new').validationMessage")
+        self.assertEqual((message, browser.text("#learn-result")), ("Enter the 8 hexadecimal digits of its ID.", ""))
+        browser.type("#learn-new", ":".join(re.findall("..", device.lower())))
+        Select(browser.find("#learn-profile")).select_by_value("D5-00-01")
+        browser.type("#learn-label", label)
+        browser.click("#learn-go")
+        self.wait_for_text("#learn-result", "Learned.")
+        self.assertIn(f'{{"eep":"D5-00-01","id":"{device}","label":"{label}"', ctl("list"))
+        stick.bring(device, OPEN)
+        self.wait_for_text("#learn-result", "Its reading: Contact open")
+        browser.click("#learn-close")
+
+    def back_up(self) -> str:
+        """Makes a backup by the button, and returns its path."""
+        self.tab("overview")
+        self.wait(lambda: browser.find("#gateway-backup").is_enabled(), bool, "the button Back up")
+        count = json.loads(ctl("list").splitlines()[-1])["count"]
+        browser.click("#gateway-backup")
+        path = f"/var/backups/enogate/hall-{datetime.now():%Y-%m-%d}.tar.gz"
+        wanted = f"Backup written: {path}: {count} devices"
+        self.wait(lambda: browser.find("#gateway-note").text, lambda text: text == wanted, wanted)
+        return path
 
     def wait_until_hidden(self, selector: str) -> None:
         self.wait(lambda: browser.find(selector).is_displayed(), lambda shown: not shown, f"{selector} is hidden")
@@ -519,6 +589,130 @@ class UserActions(PageTest):
         self.wait_for_text("#learn-result", "Learned.")
         self.assertIn('"id":"01800B02","label":"Tuer"', ctl("list"))
 
+    def test_a_device_is_labelled_at_its_result_and_opened_by_its_label(self):
+        ctl("add", "01800B61", "D5-00-01")
+        self.label_at_result("01800B61", "Attic window")
+        self.shoot("result")
+
+    def test_a_sender_that_named_no_profile_is_learned_at_its_result(self):
+        ctl("learn", "on")
+        self.addCleanup(ctl, "learn", "off")
+        stick.bring("01800B62", NO_PROFILE)
+        self.tab("add")
+        row = "#teach-rows tr:first-child"
+        self.wait_for_text(row, "01800B62", "profile not sent", "Learn …")
+        browser.click(f"{row} button")
+        self.wait_for_text("#learn-id", "01800B62")
+        Select(browser.find("#learn-profile")).select_by_value("A5-02-05")
+        browser.click("#learn-go")
+        self.wait_for_text("#learn-result", "Learned.")
+        # A label can be given afterwards.
+        browser.type("#learn-label", "Cellar")
+        browser.click("#learn-go")
+        self.wait(lambda: ctl("list"), lambda text: '"id":"01800B62","label":"Cellar"' in text, "the label")
+        browser.click("#learn-close")
+        self.leave()
+        self.wait_for_text(self.result("01800B62"), "Cellar", "Label …")
+
+    def test_no_result_moves_while_the_pointer_is_on_the_list(self):
+        for device in ("01800B63", "01800B64"):
+            ctl("add", device, "D5-00-01")
+        self.tab("add")
+        self.wait_for_text(self.result("01800B64"), "learned")
+        target = browser.find(self.result("01800B64") + " button")
+        ActionChains(browser.driver).move_to_element(target).perform()
+        top = target.rect["y"]
+        ctl("add", "01800B65", "D5-00-01")
+        time.sleep(1)
+        self.assertEqual(browser.find(self.result("01800B64") + " button").rect["y"], top)
+        self.assertNotIn("01800B65", browser.text("#teach-rows"))
+        ActionChains(browser.driver).click().perform()
+        self.wait_for_text("#edit-id", "01800B64")
+        browser.click("#edit-close")
+        self.leave()
+        self.wait_for_text("#teach-rows tr:first-child", "01800B65")
+
+    def test_the_label_of_a_packet_opens_its_device(self):
+        self.learn("01800B66", "D5-00-01", "Garage")
+        self.tab("packets")
+        for device in ("01800B66", "01800B67"):
+            stick.bring(device, CLOSED)
+        self.wait_for_text("#packets-rows", "01800B67", "Garage01800B66")
+        unknown = browser.find("#packets-rows [href$='B67']")
+        self.assertFalse(unknown.is_displayed())
+        self.open_by_label("#packets-rows tr:has([href$=B66])", "01800B66", "Garage")
+
+    def test_a_device_is_learned_by_its_id(self):
+        self.learn_by_id("01800B68", "Roof")
+        browser.click("#learn-by-id")
+        browser.type("#learn-new", "01800B68")
+        self.wait_for_text("#learn-result", "Roof is learned already (D5-00-01). It gets the profile that you choose.")
+        self.shoot("learn-by-id")
+        browser.click("#learn-close")
+
+    def test_a_learned_device_keeps_its_profile_unless_another_one_is_chosen(self):
+        self.learn("01800B6C", "D2-01-12", "Kept")
+        self.tab("add")
+        browser.click("#learn-by-id")
+        profile = Select(browser.find("#learn-profile"))
+        profile.select_by_value("F6-02-01")
+        browser.type("#learn-new", "01800B6C")
+        self.wait_for_text("#learn-result", "Kept is learned already (D2-01-12)")
+        self.assertEqual(self.value("#learn-profile"), "D2-01-12")
+        browser.click("#learn-go")
+        self.wait_for_text("#learn-result", "Learned.")
+        self.assertIn('{"eep":"D2-01-12","id":"01800B6C","label":"Kept"', ctl("list"))
+        profile.select_by_value("D2-01-11")
+        browser.click("#learn-go")
+        self.wait_for_text("#learn-result", "Learned.")
+        self.assertIn('{"eep":"D2-01-11","id":"01800B6C","label":"Kept"', ctl("list"))
+
+    def test_a_profile_that_is_not_known_has_to_be_chosen(self):
+        stick.bring("01800B6D", "A5 00000008")
+        self.tab("add")
+        self.wait_for_text(self.row("01800B6D", "unknown"), "sensor (4BS)")
+        browser.click(self.row("01800B6D", "unknown") + " button")
+        profile = Select(browser.find("#learn-profile"))
+        first = profile.options[0]
+        self.assertEqual((first.text, first.is_enabled(), first.is_selected()), ("Choose the profile …", False, True))
+        browser.click("#learn-go")
+        message = browser.run("return document.querySelector('#learn-profile').validationMessage")
+        self.assertEqual(message, "Choose the profile: the data sheet of the device names it.")
+        self.assertNotIn("01800B6D", ctl("list"))
+        self.shoot("choose-profile")
+        profile.select_by_value("A5-02-05")
+        browser.click("#learn-go")
+        self.wait_for_text("#learn-result", "Learned.")
+        self.assertIn('{"eep":"A5-02-05","id":"01800B6D"', ctl("list"))
+
+    def test_a_label_that_another_device_has_is_warned_of_and_can_be_saved(self):
+        self.learn("01800B69", "D5-00-01", "Twin")
+        self.learn("01800B6A", "D5-00-01", "Other")
+        browser.click(self.row("01800B6A") + " a")
+        browser.click("#device-edit")
+        warning = browser.find("#edit-label-error")
+        self.assertFalse(warning.is_displayed())
+        browser.type("#edit-label", "Twin")
+        self.wait(lambda: warning.text, lambda text: text.startswith("01800B69 has this label, too."), "the warning")
+        self.assertEqual(warning.value_of_css_property("color"), "rgba(121, 86, 0, 1)")
+        self.assertEqual(browser.find("#edit-label").get_attribute("aria-invalid"), "false")
+        self.shoot("double-label")
+        browser.click("#edit-save")
+        self.wait_for_text("#device-label", "Twin")
+        self.assertEqual(ctl("list").count('"label":"Twin"'), 2)
+
+    def test_a_backup_is_written_and_one_that_fails_is_explained(self):
+        self.learn("01800B6B", "D5-00-01", "Saved")
+        path = self.back_up()
+        with tarfile.open(path) as archive:
+            self.assertIn(b"01800B6B,D5-00-01,Saved", archive.extractfile("devices.csv").read())
+        self.shoot("backup")
+        shutil.rmtree("/var/backups/enogate")
+        self.addCleanup(os.mkdir, "/var/backups/enogate")
+        browser.click("#gateway-backup")
+        self.wait_for_text("#problem-text", "the backup in /var/backups/enogate failed: /var/backups/enogate: No such")
+        self.assertEqual(browser.text("#gateway-note"), "")
+
     def test_a_device_is_replaced_by_one_that_was_heard(self):
         self.learn("01800B51", "D5-00-01", "Cellar door")
         for device in ("01800B52", "01800B53"):
@@ -566,8 +760,32 @@ class UserActions(PageTest):
         self.wait(lambda: self.ids("devices"), lambda ids: "01800B05" not in ids, "the removed device")
         self.assertNotIn("01800B05", ctl("list"))
 
+    def test_a_profile_that_does_not_fit_is_pointed_out_and_changed(self):
+        self.learn("01800B6E", "A5-02-05", "Misfit")
+        stick.bring("01800B6E", CLOSED)
+        self.wait_for_text(self.row("01800B6E"), "s ago")
+        self.tab("overview")
+        self.wait_for_text("#attention", "The last telegram of Misfit does not fit its profile", "Choose another")
+        self.shoot("misfit")
+        browser.click("#attention [href$='01800B6E']")
+        self.wait_for_text("#device-packets", "learned with a profile of another kind")
+        self.wait_for_text("#device-age", "s ago")
+        browser.click("#device-edit")
+        profile = Select(browser.find("#edit-profile"))
+        self.assertEqual((self.value("#edit-profile"), profile.options[0].text), ("A5-02-05", "D5-00-01 Contact"))
+        profile.select_by_value("D5-00-01")
+        self.shoot("edit-profile")
+        browser.click("#edit-save")
+        self.wait_for_text("#device-profile", "D5-00-01 Contact")
+        self.assertIn('{"eep":"D5-00-01","id":"01800B6E","label":"Misfit"', ctl("list"))
+        stick.bring("01800B6E", OPEN)
+        self.wait_for_text("#device-readings", "Contact open")
+        self.tab("overview")
+        self.wait_for_no_text("#attention", "Misfit")
+
     def test_the_learn_window_opens_counts_down_and_closes(self):
         self.tab("add")
+        browser.click("label:has(#teach-answer)")
         browser.click("#teach-open")
         self.wait(lambda: browser.text("#teach-left"), re.compile("1:[0-5][0-9]").fullmatch, "the countdown")
         self.wait_for_text("#window", "Learn window open 1:")
@@ -577,6 +795,7 @@ class UserActions(PageTest):
         browser.click("#teach-close")
         self.wait_until_hidden("#window")
         self.wait_until_hidden("#teach-left")
+        self.assertTrue(browser.find("#teach-on").is_selected())
         self.assertFalse(browser.find("#problem").is_displayed(), browser.text("#problem"))
 
     def test_the_learn_window_is_closed_when_the_page_is_left(self):
@@ -657,6 +876,12 @@ class UserActions(PageTest):
         self.wait_for_text(self.row("01800B31"), "Output 100 %", "✓ answered")
         self.wait_for_text(self.row("01800B32"), "no answer")
         self.shoot("answers")
+        browser.click(self.row("01800B32") + " .answer a")
+        self.wait_for_text("#device-id", "01800B32")
+        self.wait_for_text("#device-act", "no answer", "Has it learned this gateway?")
+        self.shoot("no-answer")
+        browser.click("#device-act a")
+        self.wait(lambda: browser.find("#teach-open").is_displayed(), bool, "the learn window")
         self.tab("overview")
         self.wait_for_text("#attention", "is deaf did not answer an order")
         self.assertNotIn("obeys", browser.text("#attention"))
@@ -882,16 +1107,56 @@ class PageOnPhone(PageTest):
         self.shoot("phone-groups-by-word")
 
     def test_no_result_of_the_learn_window_is_cut_off(self):
+        self.bring_results()
+        self.check_results("phone-results")
+
+    def test_no_result_of_the_learn_window_is_cut_off_in_german(self):
+        browser.set_language(GERMAN)
+        self.addCleanup(browser.set_language, ENGLISH)
+        self.open()
+        self.bring_results()
+        self.check_results("phone-german-results")
+
+    def bring_results(self) -> None:
+        """Lets devices be learned, one with the widest label, and refused."""
         ctl("learn", "on")
         self.addCleanup(ctl, "learn", "off")
-        for number in range(4):
+        for number in range(3):
             stick.bring(f"01800F2{number}", "D5 00")
+        ctl("add", "01800F26", "A5-09-04")
+        ctl("label", "01800F26", "W" * 32)
+        ctl("list")
+        stick.bring("01800F23", NO_PROFILE)
         # Its profile is A5-3F-01.
         stick.bring("01800F24", "A5 FC080B80")
+
+    def check_results(self, picture: str) -> None:
+        """Three results are shown at once, and no part of them is cut off."""
         self.tab("add")
-        self.wait_for_text("#teach-rows", "01800F20", "01800F24")
+        self.wait_for_text("#teach-rows", "01800F20", "01800F23", "01800F24", "W" * 32)
         self.assertEqual(browser.run(FIND_CUT_RESULTS), [])
-        self.shoot("phone-results")
+        self.assertEqual(browser.run(COUNT_VISIBLE_RESULTS), 3)
+        self.assertEqual(browser.run(FIND_UNFIT_ELEMENTS, *PHONE), [])
+        browser.run("document.querySelector('.short').scrollTo(0, 0)")
+        self.shoot(picture)
+
+    def test_a_device_is_labelled_at_its_result_learned_by_its_id_and_opened_from_its_packet(self):
+        ctl("add", "01800F41", "D5-00-01")
+        self.label_at_result("01800F41", "Phone result")
+        self.learn_by_id("01800F42", "Phone ID")
+        stick.bring("01800F42", CLOSED)
+        self.tab("packets")
+        row = "#packets-rows tr:has([href$=F42])"
+        self.wait_for_text(row, "Phone ID", "Contact closed")
+        self.open_by_label(row, "01800F42", "Phone ID")
+
+    def test_a_backup_does_not_make_the_page_wider(self):
+        path = self.back_up()
+        self.assertEqual(browser.run(FIND_UNFIT_ELEMENTS, *PHONE), [])
+        script = ("document.querySelector('#gateway-note').textContent = arguments[0];"
+                  "return document.documentElement.scrollWidth")
+        self.assertEqual(browser.run(script, path + "x" * 200), PHONE[0])
+        self.shoot("phone-backup")
 
     def wait_for_some_target(self, place: str) -> None:
         """Waits until the view is shown with its rows."""
@@ -917,7 +1182,7 @@ class PageOnPhone(PageTest):
         for place, button, more in (("device/01800F00", "#device-edit", "remove"),
                                     ("device/01800F04", "#device-edit", "replace"),
                                     ("add", self.row("01800F10", "unknown") + " button", "label"),
-                                    ("overview", "#gateway-setup", "")):
+                                    ("add", "#learn-by-id", "id"), ("overview", "#gateway-setup", "")):
             self.go(f"#/{place}")
             self.wait(lambda wanted=button: browser.find(wanted).is_displayed(), bool, button)
             browser.click(button)
@@ -943,6 +1208,9 @@ class PageOnPhone(PageTest):
         """Shows what is hidden in a dialog at first."""
         if name == "label":
             browser.type("#learn-label", "Tür")
+        elif name == "id":
+            browser.type("#learn-new", "01800F00")
+            browser.type("#learn-label", "W" * 32)
         elif name:
             # The gateway is stopped.
             browser.run("arguments[0].disabled = false", browser.find(f"#edit-{name}"))
@@ -1210,7 +1478,9 @@ class GroupMemberPage(LimitedTest):
         self.wait_for_text("#feed", "live")
         self.wait(lambda: browser.find("#gateway-refresh").is_enabled(), bool, "the button Refresh")
         self.assertFalse(browser.find("#read-only").is_displayed())
-        self.assertFalse(browser.find("#gateway-restart").is_enabled())
+        for name in ("restart", "backup", "setup"):
+            self.assertFalse(browser.find(f"#gateway-{name}").is_enabled(), name)
+        self.wait_for_text("#gateway-note", "Restart, Back up and Set up need administrative access.")
         self.learn("01800D11", "D2-01-00", "Caretaker's lamp")
         before = len(stick.sent())
         self.press(self.row("01800D11"), "On")
@@ -1231,13 +1501,17 @@ class ReadOnlyPage(LimitedTest):
     def test_the_page_is_read_only_and_says_why(self):
         self.wait_for_text("#read-only", "You can look, but not change anything.", "administrative access")
         self.wait_for_text("#feed", "live")
-        for name in ("refresh", "restart", "setup"):
+        for name in ("refresh", "restart", "backup", "setup"):
             self.assertFalse(browser.find(f"#gateway-{name}").is_enabled(), name)
         self.shoot("read-only")
         stick.bring("01800D01", PRESS)
         self.tab("add")
         self.wait_for_text(self.row("01800D01", "unknown"), "switch")
         browser.click(self.row("01800D01", "unknown") + " button")
+        self.assertFalse(browser.find("#learn-go").is_enabled())
+        browser.click("#learn-close")
+        browser.click("#learn-by-id")
+        browser.type("#learn-new", "01800D01")
         self.assertFalse(browser.find("#learn-go").is_enabled())
         browser.click("#learn-close")
         for name in ("open", "close"):
@@ -1269,7 +1543,7 @@ class ReadOnlyPage(LimitedTest):
         self.wait_for_text("#attention", "Cellar door was last heard 2 d ago")
         self.tab("devices")
         self.wait_for_text(self.row("01800D02"), "Cellar door", "D5-00-01", "Contact", "2 d ago")
-        self.wait_for_text(self.row("01800D03"), "(no label)", "F6-02-01", "not known")
+        self.wait_for_text(self.row("01800D03"), "(no label)", "F6-02-01", "none known")
         self.wait_for_text("#devices-note", "Devices and labels are those of the last list.")
         quiet = browser.run("return document.querySelector(arguments[0]).className", self.row("01800D02"))
         self.assertEqual(quiet, "quiet")
@@ -1293,6 +1567,7 @@ class ReadOnlyPage(LimitedTest):
         self.addCleanup(gateway.lines_path.parent.chmod, 0o755)
         self.open()
         self.wait_for_text("#attention", "The lines cannot be read", "you may not read it")
+        self.wait_for_text("#read-only", "You can see nothing", "administrative access")
 
 
 if __name__ == "__main__":

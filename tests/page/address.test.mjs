@@ -9,7 +9,8 @@ const OVERVIEW = { section: "overview", part: "" };
 test("each view has an address", () => {
     for (const [section, part, address] of [
         ["overview", "", "#/overview"], ["devices", "", "#/devices"], ["devices", "silent", "#/devices/silent"],
-        ["devices", "actuators", "#/devices/actuators"], ["device", "01800ABC", "#/device/01800ABC"],
+        ["devices", "actuators", "#/devices/actuators"], ["devices", "misfit", "#/devices/misfit"],
+        ["device", "01800ABC", "#/device/01800ABC"],
         ["groups", "", "#/groups"], ["add", "", "#/add"], ["packets", "", "#/packets"],
     ]) {
         assert.equal(addressOf(section, part), address);

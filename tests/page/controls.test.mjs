@@ -111,14 +111,22 @@ test("the answer is next to the buttons: sent, answered, none, or why it failed"
     sent.done = 11;
     assert.deepEqual(shown(12), ["sent", "sent …"]);
     assert.deepEqual(shown(3011), ["silent", "no answer"]);
-    assert.match(made.answer.title, /Has it learned this gateway/);
+    assert.match(made.answer.children[0].title, /Has it learned this gateway/);
     const full = controls("D2-01-00", true).made;
     full.fill(device("D2-01-00"), 3011);
     const hints = [made, full].map(({ element }) => element.querySelectorAll("span")
             .filter(one => !one.hidden && one.textContent.includes("Has it learned this gateway?")).length);
     assert.deepEqual(hints, [0, 1]);
+    // The answer in a list leads to the view of the device, and the hint there to the learn window.
+    const links = ({ element }) => element.querySelectorAll("a").map(({ href, textContent }) => [href, textContent]);
+    assert.deepEqual(links(made), [["#/device/01800ABC", "no answer"]]);
+    assert.deepEqual(links(full), [["#/add", "Add device"]]);
+    assert.equal(full.answer.textContent, "no answer");
     sent.at = 1;
     assert.deepEqual(shown(3011, device("D2-01-00", { name: "IO", raw: 0 })), ["answered", "✓ answered"]);
+    assert.deepEqual(links(made), []);
+    full.fill(device("D2-01-00", { name: "IO", raw: 0 }), 3011);
+    assert.equal(full.hint.hidden, true);
     sent.error = "<b>one</b>";
     assert.deepEqual(shown(4000), ["failed", "<b>one</b>"]);
     sent.error = "another";

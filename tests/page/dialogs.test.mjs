@@ -1,12 +1,13 @@
 import assert from "node:assert/strict";
-import { beforeEach, test } from "node:test";
+import { beforeEach, mock, test } from "node:test";
 
 import { Model } from "../../contrib/cockpit/enogate/model.js";
 import { byId, settle } from "./page.mjs";
-import { DEVICE, PACKET } from "./samples.mjs";
+import { DEVICE, HOSTILE, LIST, PACKET, READING } from "./samples.mjs";
 
 const { EditDialog } = await import("../../contrib/cockpit/enogate/edit.js");
 const { LearnDialog } = await import("../../contrib/cockpit/enogate/learn.js");
+const { PROFILES } = await import("../../contrib/cockpit/enogate/words.js");
 
 const given = [];
 // How the order that was given last ends.
@@ -67,6 +68,78 @@ for (const name of Object.keys(dialogs)) {
     });
 }
 
+/** Opens the dialog of a device that is learned, chooses a profile and enters a label. Returns the profiles. */
+function editing(device, eep, label) {
+    dialogs.edit.dialog.open(device.id, device);
+    const eeps = byId("edit-profile").children.map(({ value }) => value);
+    assert.equal(byId("edit-profile").value, eeps.includes(device.eep) ? device.eep : "");
+    if (eep)
+        byId("edit-profile").enterValue(eep, "value");
+    byId("edit-label").value = label ?? device.label;
+    byId("edit-save").click();
+    return eeps;
+}
+byId("edit-profile").listeners.set("value", () => {});
+
+test("only what was changed is saved: the profile, the label, both, or nothing", async () => {
+    const [profile, label] = ["add 01800ABC A5-02-05", "label 01800ABC Back door"];
+    for (const [eep, text, wanted] of [["A5-02-05", null, [profile]], [null, "Back door", [label]],
+                                       ["A5-02-05", "Back door", [profile, label]], [DEVICE.eep, "Front door", []],
+                                       ["A5-02-05", "", [profile, "label 01800ABC"]]]) {
+        given.length = page.opened.length = 0;
+        assert.deepEqual(editing(DEVICE, eep, text), [...PROFILES.keys()]);
+        for (const one of wanted) {
+            assert.equal(given.at(-1), one);
+            answer.resolve();
+            await settle();
+        }
+        await settle();
+        assert.deepEqual([given, byId("edit").open, page.opened], [wanted, false, ["the list"]]);
+    }
+});
+
+test("a profile that was refused changes no label, and one that was saved is not given again", async () => {
+    editing(DEVICE, "A5-02-05", "Back door");
+    answer.reject({ message: "enogatectl: why" });
+    await settle();
+    assert.deepEqual([given, byId("edit-result").textContent, byId("edit").open],
+                     [["add 01800ABC A5-02-05"], "why", true]);
+    byId("edit-save").click();
+    answer.resolve();
+    await settle();
+    answer.reject({ message: "enogatectl: why" });
+    await settle();
+    byId("edit-save").click();
+    assert.deepEqual(given, ["add 01800ABC A5-02-05", "add 01800ABC A5-02-05", "label 01800ABC Back door",
+                             "label 01800ABC Back door"]);
+});
+
+test("the profiles that fit the last telegram come first, if that of the device does not", () => {
+    const eeps = editing({ ...DEVICE, misfit: "F6" });
+    assert.deepEqual(eeps.slice(0, 6),
+                     ["F6-01-01", "F6-02-01", "F6-02-02", "F6-03-01", "F6-03-02", [...PROFILES.keys()]
+                             .find(one => !one.startsWith("F6"))]);
+    assert.deepEqual([...eeps].sort(), [...PROFILES.keys()].sort());
+    // A profile that is not supported stays, unless another one is chosen.
+    assert.equal(editing({ ...DEVICE, eep: "A5-3F-01" })[0], "");
+    assert.deepEqual(given, []);
+    editing({ ...DEVICE, eep: "A5-3F-01" }, "A5-02-05");
+    assert.deepEqual(given, ["add 01800ABC A5-02-05"]);
+});
+
+test("no profile can be saved without the right to give orders, or while the device is to be removed", () => {
+    page.canOrderNow = false;
+    editing(DEVICE, "A5-02-05");
+    assert.deepEqual(given, []);
+    page.canOrderNow = true;
+    dialogs.edit.open(dialogs.edit.dialog);
+    assert.equal(byId("edit-profile").disabled, false);
+    byId("edit-remove").click();
+    assert.equal(byId("edit-profile").disabled, true);
+    dialogs.edit.dialog.save();
+    assert.deepEqual(given, []);
+});
+
 test("a dialog is closed when its order was carried out", async () => {
     const { enter, isOpen } = opened("edit");
     enter();
@@ -86,7 +159,7 @@ test("a sender that was learned gets its label after that", async () => {
 test("a device that was learned with a wrong profile is learned again with another one", async () => {
     const { order, result } = opened("learn");
     const [profile, learn] = [byId("learn-profile"), byId("learn-go")];
-    const choose = eep => { profile.value = eep; profile.listeners.get("change")?.({ target: profile }); };
+    const choose = eep => profile.enterValue(eep, "change");
     byId("learn-label").value = "";
     learn.click();
     // No second order is given before the answer.
@@ -104,6 +177,302 @@ test("a device that was learned with a wrong profile is learned again with anoth
     page.canOrderNow = false;
     choose("A5-02-05");
     assert.equal(learn.disabled, true);
+});
+
+/** Opens the dialog for a device whose ID is entered. */
+function learning(...devices) {
+    page.model = new Model(0);
+    devices.forEach(device => page.model.take(device, 0));
+    page.model.take({ ...LIST, count: devices.length }, 0);
+    byId("learn-by-id").click();
+    const enter = (name, value) => {
+        if (name === "profile")
+            return byId("learn-profile").enterValue(value, "change");
+        byId(`learn-${name}`).enterValue(value, name === "new" ? "none" : "input");
+        byId("learn").listeners.get("input")();
+    };
+    byId("learn-new").listeners.set("none", () => {});
+    return { enter, field: byId("learn-new"), profile: byId("learn-profile"), learn: byId("learn-go"),
+             result: () => byId("learn-result").textContent };
+}
+
+test("a device is learned by the ID that is printed on it, with any profile", async () => {
+    const { enter, learn, result } = learning();
+    assert.deepEqual([byId("learn").open, byId("learn-sender").hidden, byId("learn-id").textContent],
+                     [true, false, ""]);
+    assert.deepEqual(byId("learn-profile").children.map(({ value }) => value), ["", ...PROFILES.keys()]);
+    enter("profile", "F6-02-01");
+    enter("new", " 0x01:80-0a c1");
+    enter("label", "Back door");
+    learn.click();
+    learn.click();
+    assert.deepEqual([given, result()], [["add 01800AC1 F6-02-01"], "…"]);
+    // Nothing is given before the answer, whatever is entered meanwhile.
+    enter("new", "01800AC2");
+    assert.deepEqual([learn.disabled, result()], [true, "…"]);
+    answer.resolve();
+    await settle();
+    answer.resolve();
+    await settle();
+    assert.deepEqual(given, ["add 01800AC1 F6-02-01", "label 01800AC1 Back door"]);
+    assert.match(result(), /^Learned/);
+    assert.deepEqual([page.opened, learn.disabled], [["the list"], true]);
+    // The reading is that of the device that was learned.
+    page.model.take({ ...READING, id: "01800AC3" }, 0);
+    dialogs.learn.dialog.paint();
+    assert.match(result(), /^Learned\. Press/);
+    page.model.take({ ...READING, id: "01800AC1" }, 0);
+    dialogs.learn.dialog.paint();
+    assert.equal(result(), "Learned. Its reading: Temperature 20.08 °C");
+    // The next one can be learned at once.
+    enter("label", "");
+    learn.click();
+    assert.equal(given.at(-1), "add 01800AC2 F6-02-01");
+});
+
+test("what is not an ID is not learned, and the same message as for a replacement says so", () => {
+    const { enter, field, learn } = learning();
+    enter("profile", "F6-02-01");
+    for (const text of [...HOSTILE, "01800AC", "01800AC1F", "01800ACG", "--help", "Küche"]) {
+        enter("new", text);
+        learn.click();
+        field.enter();
+        assert.equal(field.why, "Enter the 8 hexadecimal digits of its ID.", text);
+    }
+    assert.deepEqual(given, []);
+    enter("new", "01800AC1");
+    enter("label", "Tür");
+    field.enter();
+    assert.deepEqual([given, field.why], [[], ""]);
+    page.canOrderNow = false;
+    const { enter: again, learn: disabled } = learning();
+    again("new", "01800AC1");
+    disabled.click();
+    field.enter();
+    assert.deepEqual([given, disabled.disabled], [[], true]);
+});
+
+test("an ID that is learned already is pointed out, and its device can get another profile", () => {
+    const { enter, learn, result } = learning(DEVICE, { ...DEVICE, id: "01800AC1", label: "" });
+    enter("new", "01800AB");
+    assert.equal(result(), "");
+    enter("new", "01800ABC");
+    assert.equal(result(), "Front door is learned already (D5-00-01). It gets the profile that you choose.");
+    // Its own label is no double one.
+    enter("label", "Front door");
+    assert.equal(byId("learn-label-error").hidden, true);
+    enter("new", "01800AC1");
+    assert.match(result(), /^01800AC1 is learned already/);
+    enter("label", "Front door");
+    assert.match(byId("learn-label-error").textContent, /^01800ABC has this label/);
+    enter("label", "");
+    enter("profile", "F6-02-01");
+    learn.click();
+    assert.deepEqual(given, ["add 01800AC1 F6-02-01"]);
+});
+
+/** A learned lamp with two channels. */
+const LAMP = { ...DEVICE, id: "01800AC1", eep: "D2-01-12", label: "Lamp" };
+
+test("a learned device keeps its profile unless another one is chosen after its ID was entered", async () => {
+    const { enter, profile, learn } = learning(LAMP, { ...DEVICE, id: "01800AC3" });
+    enter("profile", "F6-02-01");
+    enter("new", "01800AC");
+    assert.equal(profile.value, "F6-02-01");
+    enter("new", "01800AC1");
+    assert.equal(profile.value, "D2-01-12");
+    enter("new", "01800AC3");
+    assert.equal(profile.value, "D5-00-01");
+    // What was chosen for a new device is chosen for the next one, too.
+    enter("new", "01800AC2");
+    assert.equal(profile.value, "F6-02-01");
+    enter("new", "01800AC1");
+    enter("label", "Hall lamp");
+    assert.equal(profile.value, "D2-01-12");
+    learn.click();
+    assert.deepEqual(given, ["add 01800AC1 D2-01-12"]);
+    answer.reject({ message: "enogatectl: why" });
+    await settle();
+    enter("profile", "D2-01-00");
+    enter("label", "");
+    dialogs.learn.dialog.paint();
+    learn.click();
+    assert.equal(given.at(-1), "add 01800AC1 D2-01-00");
+});
+
+test("a profile that was selected for a learned device is not kept for a new one", () => {
+    const { enter, field, profile, learn } = learning(LAMP);
+    enter("new", LAMP.id);
+    enter("new", "01800AC2");
+    assert.equal(profile.value, "");
+    learn.click();
+    field.enter();
+    assert.deepEqual([given, profile.why], [[], "Choose the profile: the data sheet of the device names it."]);
+    enter("profile", "D5-00-01");
+    learn.click();
+    assert.deepEqual([given, profile.why], [["add 01800AC2 D5-00-01"], ""]);
+});
+
+test("a device that another program learns meanwhile keeps its profile, also without a repaint", () => {
+    for (const isPainted of [true, false]) {
+        given.length = 0;
+        const { enter, learn, profile, result } = learning();
+        enter("new", LAMP.id);
+        enter("profile", "F6-02-01");
+        page.model.take(LAMP, 0);
+        page.model.take(LIST, 0);
+        if (isPainted) {
+            dialogs.learn.dialog.paint();
+            assert.equal(profile.value, LAMP.eep);
+            assert.match(result(), /^Lamp is learned already \(D2-01-12\)/);
+        }
+        learn.click();
+        assert.deepEqual(given, ["add 01800AC1 D2-01-12"]);
+    }
+});
+
+test("the profile of a device that was just learned can be changed before and after it is listed", async () => {
+    const { enter, learn, profile, result } = learning();
+    enter("new", LAMP.id);
+    enter("profile", "D2-01-12");
+    learn.click();
+    answer.resolve();
+    await settle();
+    assert.match(result(), /^Learned/);
+    enter("profile", "D2-01-11");
+    page.model.take(LAMP, 0);
+    page.model.take(LIST, 0);
+    dialogs.learn.dialog.paint();
+    enter("label", "");
+    assert.equal(profile.value, "D2-01-11");
+    // The profile that is chosen for another device is not that of this one.
+    enter("new", "01800AC2");
+    enter("profile", "F6-01-01");
+    enter("new", LAMP.id);
+    assert.equal(profile.value, "D2-01-12");
+});
+
+test("a sender that was heard and learned by another program before the click keeps that profile", () => {
+    learning(LAMP);
+    dialogs.learn.dialog.open(LAMP.id, { rorg: "D2", eep: null });
+    assert.equal(byId("learn-profile").value, "D2-01-12");
+    // A profile of another kind is none that this sender can have.
+    dialogs.learn.dialog.open(LAMP.id, { rorg: "F6", eep: null });
+    assert.equal(byId("learn-profile").value, "");
+});
+
+test("after an actuator was learned, the dialog says that it has to learn the gateway, too", async () => {
+    const isTold = () => !byId("learn-hint").hidden;
+    const learn = async (id, sender, eep) => {
+        learning();
+        dialogs.learn.dialog.open(id, sender);
+        byId("learn-profile").enterValue(eep, "change");
+        byId("learn-go").click();
+        assert.equal(isTold(), false);
+        answer.resolve();
+        await settle();
+    };
+    const heard = rorg => ({ ...PACKET, rorg, count: 1, received: null });
+    for (const [rorg, eep, wanted] of [["D2", "D2-01-00", true], ["D2", "D2-05-00", true], ["D4", "A5-02-05", true],
+                                       ["A5", "A5-02-05", false], ["F6", "F6-02-01", false]]) {
+        await learn(READING.id, heard(rorg), eep);
+        assert.equal(isTold(), wanted, eep);
+        page.model.take({ ...READING, eep }, 0);
+        dialogs.learn.dialog.paint();
+        assert.match(byId("learn-result").textContent, /^Learned\. Its reading: /);
+        assert.equal(isTold(), wanted, eep);
+    }
+    // By its ID, and not if it was refused.
+    const { enter, learn: go, result } = learning();
+    enter("new", LAMP.id);
+    enter("profile", LAMP.eep);
+    go.click();
+    answer.reject({ message: "enogatectl: why" });
+    await settle();
+    assert.deepEqual([result(), isTold()], ["why", false]);
+    go.click();
+    answer.resolve();
+    await settle();
+    assert.deepEqual([/^Learned\. /.test(result()), isTold()], [true, true]);
+    enter("label", "Lamp");
+    assert.equal(isTold(), false);
+});
+
+test("the dialog for a sender that was heard shows its kind, when it sent, and how often, until it is learned", () => {
+    const shown = () => {
+        dialogs.learn.dialog.paint();
+        return byId("learn-heard").hidden ? "" : byId("learn-heard").textContent;
+    };
+    learning();
+    assert.equal(shown(), "");
+    mock.timers.enable({ apis: ["Date"], now: 5000 });
+    page.model.take(PACKET, 4000);
+    dialogs.learn.dialog.open(PACKET.id, page.model.unknown.get(PACKET.id));
+    assert.equal(byId("learn-heard").textContent, "switch (RPS), 1 s ago, 1 ×");
+    mock.timers.tick(2000);
+    assert.equal(shown(), "switch (RPS), 3 s ago, 1 ×");
+    page.model.take(PACKET, 7000);
+    page.model.take({ ...PACKET, id: "01800AC9", rorg: "D5" }, 7000);
+    assert.equal(shown(), "switch (RPS), 0 s ago, 2 ×");
+    // It is no longer kept, but was heard all the same.
+    page.model.unknown.delete(PACKET.id);
+    assert.equal(shown(), "switch (RPS), 3 s ago, 1 ×");
+    page.model.take({ ...DEVICE, id: PACKET.id }, 0);
+    page.model.take(LIST, 0);
+    assert.equal(shown(), "");
+    mock.timers.reset();
+    dialogs.learn.dialog.open("01800AC8", { rorg: "<b>", count: 1, received: null });
+    assert.equal(shown(), "telegram <b>, earlier, 1 ×");
+});
+
+test("a profile is selected only if it is known, the only one, or the usual one of a switch", () => {
+    const selected = (rorg, eep = null) => {
+        dialogs.learn.dialog.open("01800AC9", { rorg, eep });
+        const [first] = byId("learn-profile").children;
+        const isPrompt = first.disabled && first.selected && first.textContent === "Choose the profile …";
+        assert.equal(isPrompt, byId("learn-profile").value === "", rorg);
+        return byId("learn-profile").value;
+    };
+    assert.deepEqual(["F6", "D5", "A5", "D2", "D4"].map(rorg => selected(rorg)),
+                     ["F6-02-01", "D5-00-01", "", "", ""]);
+    assert.deepEqual([selected("A5", "A5-02-05"), selected("D4", "D2-05-00")], ["A5-02-05", "D2-05-00"]);
+    // The profiles that it has sent are not supported.
+    assert.deepEqual([selected("A5", "A5-3F-01"), selected("D4", "D2-14-41"), selected("F6", "F6-10-00")],
+                     ["", "", ""]);
+});
+
+test("the dialog for a sender that was heard has no field for an ID, also after one was entered", () => {
+    const { enter } = learning();
+    enter("new", "01800AC2");
+    dialogs.learn.open(dialogs.learn.dialog);
+    assert.deepEqual([byId("learn-sender").hidden, byId("learn-id").textContent], [true, DEVICE.id]);
+    assert.deepEqual(byId("learn-profile").children.map(({ value }) => value), ["D5-00-01"]);
+    byId("learn-profile").value = DEVICE.eep;
+    byId("learn-go").click();
+    assert.deepEqual(given, ["add 01800ABC D5-00-01"]);
+    // Its row may still be there after somebody else has learned it.
+    learning(DEVICE);
+    dialogs.learn.open(dialogs.learn.dialog);
+    byId("learn-label").enterValue("Front door");
+    byId("learn").listeners.get("input")();
+    assert.deepEqual([byId("learn-label-error").hidden, byId("learn-result").textContent], [true, ""]);
+    learning();
+    assert.equal(byId("learn-new").value, "");
+});
+
+test("a label can be entered after a device was learned without one", async () => {
+    const { enter } = opened("learn");
+    byId("learn-label").value = "";
+    enter();
+    answer.resolve();
+    await settle();
+    assert.deepEqual([given, byId("learn-go").disabled], [["add 01800ABC D5-00-01"], true]);
+    byId("learn-label").value = "Back door";
+    byId("learn").listeners.get("input")();
+    enter();
+    answer.resolve();
+    await settle();
+    assert.equal(given.at(-1), "label 01800ABC Back door");
 });
 
 /** Opens the dialog of the device, and the part that replaces it. */

@@ -106,7 +106,8 @@ test("a reading has German words and a decimal comma, and so have other words of
     assert.equal(words.stateText(model.devices.get(READING.id)), "Temperatur 20,08 °C");
     const contact = { reading: { name: "CO", word: "closed" }, channel: null };
     assert.equal(words.readingText("D5-00-01", contact), "Kontakt geschlossen");
-    assert.equal(words.readingText("D5-00-01", { ...contact, channel: 1 }, true), "Kanal 1: Kontakt geschlossen");
+    const output = { reading: { name: "OV", num: 1, den: 3, unit: "%" }, channel: 1 };
+    assert.equal(words.readingText("D2-01-12", output), "Kanal 1: Ausgang 0,33 %");
     assert.deepEqual([words.profileWithKind("D5-00-01"), words.kindText("F6"), words.reasonText("unknown_sender")],
                      ["D5-00-01 Kontakt", "Taster (RPS)", "nicht eingelernt"]);
     assert.deepEqual([words.ageText(0, 60000), words.modeText("closed"), words.modeText("as F6-02-01")],

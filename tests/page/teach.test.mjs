@@ -3,7 +3,7 @@ import { beforeEach, mock, test } from "node:test";
 
 import { Model } from "../../contrib/cockpit/enogate/model.js";
 import { byId, processes, settle, started } from "./page.mjs";
-import { OK, STATUS, TAUGHT } from "./samples.mjs";
+import { DEVICE, HOSTILE, LIST, OK, PACKET, STATUS, TAUGHT } from "./samples.mjs";
 
 const { runCommand } = await import("../../contrib/cockpit/enogate/commands.js");
 const { resultText } = await import("../../contrib/cockpit/enogate/words.js");
@@ -17,7 +17,9 @@ const CLOSED = { ...STATUS, mode: "closed" };
 function card() {
     const page = {
         gateway: "hall", canOrderNow: true, model: new Model(0), painter: { paintNow: () => {} },
-        complaints: [], given: [], refreshed: 0,
+        complaints: [], given: [], refreshed: 0, opened: [],
+        sections: Object.fromEntries(["device", "add"].map(name =>
+            [name, { dialog: { open: (...item) => page.opened.push([name, ...item]) } }])),
         showError: text => page.complaints.push(text), refresh: () => page.refreshed++,
         giveByButton: order => page.given.push(order.join(" ")),
         runCommand: command => runCommand(command, "user"),
@@ -37,6 +39,7 @@ const windows = () => started("enogatectl", "--for");
 
 beforeEach(() => {
     processes.length = 0;
+    byId("teach-rows").replaceChildren();
     byId("teach-answer").checked = byId("teach-as").checked = false;
     mock.timers.reset();
     mock.timers.enable({ apis: ["setTimeout", "Date"], now: 1000 });
@@ -93,12 +96,118 @@ test("each result has its time, the profile if it was sent, and what was done, t
     made.paint();
     const rows = byId("teach-rows").children;
     assert.deepEqual(rows.map(({ children }) => children.map(({ textContent }) => textContent)), [
-        ["earlier", "01800AC1", "profile not sent", resultText("no_profile")],
-        ["earlier", "01800ABC", "D5-00-01 Contact", "learned"],
+        ["earlier", "01800AC1", "profile not sent", resultText("no_profile"), ""],
+        ["earlier", "(no label)01800ABC", "D5-00-01 Contact", "learned", "Label …"],
     ]);
     assert.notEqual(resultText("no_profile"), "no_profile");
     assert.deepEqual(rows.map(({ dataset }) => dataset.why), ["no_profile", "accepted"]);
     assert.equal(byId("teach-results").hidden, false);
+});
+
+/** The cell of the sender in the newest result, and its button. */
+function newest(made) {
+    made.paint();
+    const { children: [, sender, , , action] } = byId("teach-rows").children[0];
+    return { link: sender.children[0], text: sender.textContent, button: action.children[0] };
+}
+
+test("a result has the label of its device, which leads to its view, and a button for another label", () => {
+    const { made, page } = card();
+    page.model.take({ ...TAUGHT, id: "01800AC1" }, 0);
+    page.model.take(TAUGHT, 0);
+    page.model.take(DEVICE, 0);
+    page.model.take({ ...DEVICE, id: "01800AC1", label: "Gate" }, 0);
+    page.model.take({ ...LIST, count: 2 }, 0);
+    const { link, text, button } = newest(made);
+    assert.deepEqual([text, link.textContent, link.href, link.hidden],
+                     ["Front door01800ABC", "Front door", "#/device/01800ABC", false]);
+    assert.deepEqual([button.textContent, button.hidden], ["Label …", false]);
+    button.click();
+    assert.deepEqual(page.opened, [["device", "01800ABC", page.model.devices.get("01800ABC")]]);
+    // A label that is given meanwhile is shown, whatever it contains.
+    for (const label of HOSTILE) {
+        page.model.devices.get("01800ABC").label = label;
+        made.paint();
+        assert.deepEqual([link.textContent, link.href], [label || "(no label)", "#/device/01800ABC"]);
+    }
+});
+
+test("a result of a device that was deleted has no button, and no link", () => {
+    const { made, page } = card();
+    page.model.take(TAUGHT, 0);
+    made.paint();
+    const [row] = byId("teach-rows").children;
+    page.model.take({ ...TAUGHT, result: "deleted" }, 0);
+    const { link, text, button } = newest(made);
+    assert.deepEqual([text, link.hidden, button.hidden], ["01800ABC", true, true]);
+    assert.deepEqual([row.children[1].children[0].hidden, row.children[4].children[0].hidden], [true, true]);
+});
+
+test("a sender whose telegram did not name its profile can be learned where its result is", () => {
+    const { made, page } = card();
+    const sender = { ...PACKET, rorg: "A5", why: "no_profile" };
+    page.model.take({ ...TAUGHT, id: sender.id, eep: null, result: "no_profile" }, 0);
+    // Without packet lines, nothing is known of it.
+    assert.equal(newest(made).button.hidden, true);
+    page.model.take(sender, 0);
+    const { button } = newest(made);
+    assert.deepEqual([button.textContent, button.hidden], ["Learn …", false]);
+    button.click();
+    assert.deepEqual(page.opened, [["add", sender.id, page.model.unknown.get(sender.id)]]);
+    page.model.take({ ...TAUGHT, id: sender.id, eep: "A5-02-05" }, 0);
+    made.paint();
+    assert.equal(button.textContent, "Label …");
+});
+
+test("no result moves while the pointer is on the list", () => {
+    const { made, page } = card();
+    page.model.take(TAUGHT, 0);
+    made.paint();
+    const list = byId("teach-rows");
+    list.matches = selector => selector === ":hover";
+    page.model.take({ ...TAUGHT, id: "01800AC1" }, 0);
+    made.paint();
+    assert.deepEqual(list.children.map(row => row.children[1].textContent), ["(no label)01800ABC"]);
+    delete list.matches;
+    made.paint();
+    assert.deepEqual(list.children.map(row => row.children[1].textContent),
+                     ["(no label)01800AC1", "(no label)01800ABC"]);
+});
+
+test("after a window has closed, the usual kind of device is chosen again", async () => {
+    const { made } = card();
+    const chosen = () => {
+        made.paint();
+        return ["on", "answer", "as"].filter(name => byId(`teach-${name}`).checked).join();
+    };
+    byId("teach-on").checked = false;
+    byId("teach-profile").enterValue("F6-03-01");
+    byId("teach-open").click();
+    assert.equal(chosen(), "as");
+    made.takeLine(OPEN, 1000);
+    assert.equal(chosen(), "as");
+    windows()[0].resolve();
+    await settle();
+    assert.equal(chosen(), "on");
+    assert.deepEqual(made.openingOrder(), ["learn", "on"]);
+    // The window of a gateway that is left is closed, too.
+    [byId("teach-on").checked, byId("teach-answer").checked] = [false, true];
+    byId("teach-open").click();
+    made.takeLine(OPEN, 1000);
+    assert.equal(chosen(), "answer");
+    made.clear();
+    assert.equal(chosen(), "on");
+});
+
+test("a window that cannot be opened leaves the choice", async () => {
+    const { made } = card();
+    [byId("teach-on").checked, byId("teach-answer").checked] = [false, true];
+    byId("teach-open").click();
+    made.paint();
+    windows()[0].reject({ message: "enogatectl: why" });
+    await settle();
+    made.paint();
+    assert.deepEqual([byId("teach-on").checked, byId("teach-answer").checked], [false, true]);
 });
 
 test("a window that cannot be opened is explained", async () => {

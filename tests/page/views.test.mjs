@@ -1,7 +1,7 @@
 import assert from "node:assert/strict";
 import { beforeEach, test } from "node:test";
 
-import { byId } from "./page.mjs";
+import { byId, settle, started } from "./page.mjs";
 import { devicesByState } from "../../contrib/cockpit/enogate/health.js";
 import { Model } from "../../contrib/cockpit/enogate/model.js";
 import { DEVICE, HOSTILE, LIST, PACKET, READING, RESPONSE, STATUS } from "./samples.mjs";
@@ -35,7 +35,7 @@ beforeEach(() => {
         minutes: Infinity, canOrderNow: true, isQuiet: () => false, painter: { paintNow: () => {} }, gateway: "hall",
         feedState: { why: "" },
         health: { states: { ActiveState: "active" }, hasStick: true }, settings: new Map([["BASE", "FFA1B280"]]),
-        rights: { isAdmin: false }, mayUseFix: () => false,
+        rights: { isAdmin: false, permission: { allowed: false } }, mayUseFix: () => false,
     };
 });
 
@@ -55,7 +55,7 @@ test("the list has the devices of the state that the address names, and says how
     }
     assert.deepEqual(states.map(({ textContent }) => textContent), ["2", "0", "1", "1"]);
     assert.deepEqual([text("devices-none-title"), byId("devices-none-add").hidden], ["No device matches", true]);
-    section.leave();
+    section.rows.clear();
     assert.equal(byId("devices-rows").children.length, 0);
 });
 
@@ -136,7 +136,7 @@ test("the view of a device has its readings, its packets and all its orders", ()
     section.paint();
     assert.deepEqual(["device-id", "device-profile", "device-readings", "device-packets"].map(text), [
         ACTUATOR, "D2-01-12 Electronic switch, 2 channels", "Output 100 %",
-        `${byId("device-packets").children[0].children[0].textContent}${ACTUATOR}Output 100 %switch (RPS)02 30-45 dBm`,
+        `${byId("device-packets").children[0].children[0].textContent}(no label)${ACTUATOR}Output 100 %switch (RPS)02 30-45 dBm`,
     ]);
     assert.match(text("device-act"), /Ask for its power/);
     assert.deepEqual([byId("device-act").hidden, byId("device-interval").hidden, byId("device-log").hidden],
@@ -146,6 +146,23 @@ test("the view of a device has its readings, its packets and all its orders", ()
     assert.deepEqual([text("device-id"), text("device-readings"), text("device-interval"), byId("device-act").hidden],
                      [CONTACT, "Contact open", "usually sends at least every 30 min", true]);
     assert.equal(byId("device-packets").children.length, 1);
+});
+
+test("the age of the last telegram fits the packets below it, also if they had no readings", () => {
+    const section = new DeviceSection(page);
+    page.model.take({ ...DEVICE, id: "01800A03" }, 0);
+    page.model.take({ ...DEVICE, id: "01800A04" }, 0);
+    page.model.take({ ...LIST, count: 2 }, 0);
+    page.model.take({ ...PACKET, id: "01800A03", why: "wrong_kind" }, null);
+    const age = part => {
+        page.part = part;
+        section.paint();
+        return [text("device-age"), byId("device-log").hidden];
+    };
+    assert.deepEqual(age("01800A03"), ["last telegram: earlier", false]);
+    assert.deepEqual(age("01800A04"), ["last telegram: none known", true]);
+    page.model.take({ ...PACKET, id: "01800A03", why: "wrong_kind" }, Date.now());
+    assert.deepEqual(age("01800A03"), ["last telegram: 0 s ago", false]);
 });
 
 test("a device that is not learned is reported once the devices are known", () => {
@@ -199,4 +216,71 @@ test("packets have the readings of learned devices, and only the newest are show
     page.model.take({ ...PACKET, id: ACTUATOR, why: "wrong_length" }, 2000);
     section.paint();
     assert.deepEqual(shown(), ["its length does not fit its profile", "Output 100 %", "decoded"]);
+});
+
+test("the label of a device in the packets leads to its view, and a sender that is not learned has no link", () => {
+    byId("packets-rows").replaceChildren();
+    const section = new PacketsSection(page);
+    page.model.take(PACKET, 2000);
+    page.model.take({ kind: 4, size: 12, type: "packet", why: "other_type" }, 2000);
+    const links = () => {
+        section.paint();
+        return byId("packets-rows").children.map(({ children: [, { children: [link, id] }] }) =>
+            [link.hidden ? "" : link.textContent, link.hidden ? "" : link.href, id.textContent]);
+    };
+    const [contact, actuator] = [CONTACT, ACTUATOR].map(id => ["(no label)", `#/device/${id}`, id]);
+    assert.deepEqual(links(), [["", "", ""], ["", "", PACKET.id], actuator, contact]);
+    for (const label of HOSTILE) {
+        page.model.devices.get(CONTACT).label = label;
+        assert.deepEqual(links().at(-1), [label || "(no label)", `#/device/${CONTACT}`, CONTACT]);
+    }
+    page.model.devices.delete(CONTACT);
+    assert.deepEqual(links().at(-1), ["", "", CONTACT]);
+});
+
+/** The Overview of a page whose user presses the button for a backup. */
+function backingUp() {
+    const [complaints, button] = [[], byId("gateway-backup")];
+    Object.assign(page, { rights: { isAdmin: true, permission: { allowed: true } }, showError: text => complaints.push(text) });
+    const section = new OverviewSection(page);
+    page.painter.paintNow = () => section.paint();
+    section.paint();
+    button.click();
+    return { section, complaints, button, command: started("enogatectl", "hall", "backup").at(-1),
+             shown: () => [text("gateway-note"), button.disabled] };
+}
+
+test("a backup is written as root, and its path and the number of devices are shown", async () => {
+    const { complaints, command, shown } = backingUp();
+    assert.deepEqual([command.words, command.options.superuser], [["enogatectl", "hall", "backup"], "require"]);
+    assert.deepEqual(shown(), ["…", true]);
+    command.resolve("/var/backups/enogate/hall-2026-12-01.tar.gz: 3 devices\n");
+    await settle();
+    assert.deepEqual(shown(), ["Backup written: /var/backups/enogate/hall-2026-12-01.tar.gz: 3 devices", false]);
+    assert.deepEqual(complaints, ["", ""]);
+});
+
+test("a backup that fails is an error of the page, and can be tried again", async () => {
+    const { complaints, command, shown, button } = backingUp();
+    command.reject({ message: "enogatectl: the backup in /var/backups/enogate failed: No space left on device" });
+    await settle();
+    assert.deepEqual(shown(), ["", false]);
+    assert.deepEqual(complaints, ["", "the backup in /var/backups/enogate failed: No space left on device"]);
+    button.click();
+    started("enogatectl", "hall", "backup").at(-1).resolve("done\n");
+    await settle();
+    assert.deepEqual([shown(), complaints.at(-1)], [["Backup written: done", false], ""]);
+});
+
+test("a backup needs administrative rights, and its end is not shown at another gateway", async () => {
+    const { section, complaints, command, shown } = backingUp();
+    page.gateway = "yard";
+    section.paint();
+    assert.deepEqual(shown(), ["", false]);
+    command.reject({ message: "enogatectl: why" });
+    await settle();
+    assert.deepEqual([shown(), complaints], [["", false], [""]]);
+    Object.assign(page.rights, { isAdmin: false, hasDesk: true });
+    section.paint();
+    assert.deepEqual(shown(), ["", true]);
 });

@@ -23,6 +23,17 @@ test("each reading of each profile has a name", () => {
     }
 });
 
+test("in a list of profiles, those of one kind have their ranges", () => {
+    const wanted = [
+        ["A5-02-01", "A5-02-01 Temperature sensor, -40 to 0 °C"],
+        ["A5-02-0B", "A5-02-0B Temperature sensor, 60 to 100 °C"],
+        ["A5-02-20", "A5-02-20 Temperature sensor, -10 to 41.2 °C"],
+        ["A5-06-01", "A5-06-01 Light sensor, 300 to 30000 lx"], ["F6-01-01", "F6-01-01 Push button"],
+    ];
+    for (const option of wanted)
+        assert.deepEqual(words.profileOption(option[0]), option);
+});
+
 test("what actuators can do", () => {
     const abilities = eep => words.PROFILES.get(eep).abilities;
     assert.equal(abilities("D5-00-01"), null);
@@ -52,9 +63,10 @@ test("named states, numbers without a unit, and numbers without a meaning", () =
 
 test("the parts of a reading are its name with its channel, its value and its unit", () => {
     const output = { reading: { name: "OV", num: 1, den: 3, unit: "%" }, channel: 1 };
-    assert.deepEqual(words.readingParts("D2-01-12", output, true),
+    assert.deepEqual(words.readingParts("D2-01-12", output),
                      { name: "channel 1: Output", value: "0.33", unit: "%" });
-    assert.deepEqual(words.readingParts("D2-01-12", output), { name: "Output", value: "0.33", unit: "%" });
+    for (const eep of ["D2-01-0E", "D2-01-99"])
+        assert.equal(words.readingParts(eep, output).name.startsWith("channel"), false, eep);
     assert.deepEqual(words.readingParts("D5-00-01", reading({ name: "CO", word: "open" })),
                      { name: "Contact", value: "open", unit: "" });
     assert.deepEqual(words.readingParts("A5-02-05", reading({ name: "TMP", out_of_range: 1 })),
@@ -74,12 +86,12 @@ test("details are left out if there is more", () => {
     const numbers = ["PFD", "IO"].map(name => ({ name, raw: 0 }));
     const details = [...numbers, { name: "EL", word: "ok" }, { name: "LC", raw: 1 }];
     const normal = state(0, ...details, output(100));
-    assert.equal(text(normal), "Output 100 %");
+    assert.equal(text(normal), "channel 0: Output 100 %");
     const faults = [{ name: "PFD", raw: 1 }, { name: "EL", word: "failure" }];
     const bad = state(1, ...faults, { name: "OV", word: "not_applicable" });
-    assert.equal(text(bad), "Power failure 1, Error level failure, Output not_applicable");
+    assert.equal(text(bad), "channel 1: Power failure 1, channel 1: Error level failure, channel 1: Output not_applicable");
     assert.equal(text([...normal, ...state(1, output(0))]), "channel 0: Output 100 %, channel 1: Output 0 %");
-    assert.equal(text(state(0, { name: "IO", raw: 0 })), "Channel 0");
+    assert.equal(text(state(0, { name: "IO", raw: 0 })), "channel 0: Channel 0");
     assert.equal(text([]), "");
     assert.equal(words.stateText(device("A5-99-99", state(null, { name: "NEW", raw: 0 }))), "NEW 0");
 });

@@ -33,8 +33,7 @@ export class AddSection {
     }
 
     leave() {
-        this.rows.clear();
-        this.teach.leave();
+        this.teach.rows.clear();
     }
 
     clear() {

@@ -55,10 +55,10 @@ export const mayWriteDesk = name => cockpit.spawn(["test", "-w", places.deskOf(n
         .then(() => true, () => false);
 
 // One process gives orders with the rights of this user, and one as root.
-const servers = { user: new CommandServer(null), root: new CommandServer("require") };
+const serversByUser = { user: new CommandServer(null), root: new CommandServer("require") };
 
 /** Runs a command that gives orders, as `user` or `root`. The promise has a `close`, which ends the command. */
-export const runCommand = (command, as) => servers[as].run(command);
+export const runCommand = (command, as) => serversByUser[as].run(command);
 
 /** Starts the service of a gateway, or does what other words of systemctl mean, as root. */
 export const controlService = (name, ...words) =>

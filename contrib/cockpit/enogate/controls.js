@@ -1,8 +1,9 @@
 // The buttons of an actuator, and what has become of the last order.
 
+import { addressOf } from "./address.js";
 import { orderStateOf } from "./answers.js";
 import { _, format } from "./cockpit.js";
-import { button, element, setOptions, setText, showText } from "./dom.js";
+import { button, element, setOptions, setText } from "./dom.js";
 import * as orders from "./orders.js";
 
 const STATE_TEXTS = new Map([
@@ -18,12 +19,14 @@ export class Controls {
      * @param {boolean} isFull - whether the device can also be asked, and a blind be moved to a position
      */
     constructor(id, { kind, channels }, isFull, page) {
-        Object.assign(this, { id, page, slider: null, isEnabled: null });
+        Object.assign(this, { id, page, isFull, slider: null, isEnabled: null });
         this.answer = element("span", { className: "answer", role: "status" });
         this.channel = this.channelSelect(channels);
         const made = kind === "blind" ? this.blindControls(isFull) : this.switchControls(kind, isFull);
         const more = channels.length > 1 ? [this.channel] : [];
-        this.hint = element("span", { className: "minor", hidden: true });
+        this.hint = element("span", { className: "minor", hidden: true }, SILENT_HINT, " ",
+                            element("a", { href: addressOf("add") }, _("Add device")));
+        this.link = element("a", { href: addressOf("device", id), title: SILENT_HINT }, STATE_TEXTS.get("silent"));
         this.element = element("div", { className: "controls" }, ...more, ...made, this.answer,
                                ...isFull ? [this.hint] : []);
         this.targets = [...this.element.querySelectorAll("button, input, select")];
@@ -83,9 +86,10 @@ export class Controls {
         // The slider shows its value there while it is moved.
         if (this.answer.dataset.state !== state || state === "failed") {
             this.answer.dataset.state = state;
-            this.answer.title = state === "silent" ? SILENT_HINT : "";
-            showText(this.hint, this.answer.title);
+            this.hint.hidden = state !== "silent";
             setText(this.answer, sent?.error || STATE_TEXTS.get(state) || "");
+            if (state === "silent" && !this.isFull)
+                this.answer.replaceChildren(this.link);
         }
     }
 

@@ -50,7 +50,7 @@ export class DeviceSection {
     }
 
     fill(device, now) {
-        setText(byId("device-label"), device.label || _("(no label)"));
+        setText(byId("device-label"), words.labelText(device));
         setText(byId("device-id"), this.id);
         setText(byId("device-age"), format(_("last telegram: $0"), lastHeardText(device, now)));
         byId("device-age").classList.toggle("warn", this.page.isQuiet(device));

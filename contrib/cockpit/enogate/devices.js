@@ -29,7 +29,7 @@ export const matchingDevices = (devices, text) =>
 /** How long ago a device was heard. */
 export function lastHeardText(device, now) {
     const time = lastHeardTime(device);
-    return time !== null || device.readings.size ? words.ageText(time, now) : _("not known");
+    return time !== null || device.readings.size || device.hasSent ? words.ageText(time, now) : _("none known");
 }
 
 export class DevicesSection {
@@ -46,10 +46,6 @@ export class DevicesSection {
         this.states = [...document.querySelectorAll("#devices-states a")];
         const headings = document.querySelectorAll("#devices th[data-column]");
         this.sorting = new Sorting(COLUMNS, byId("devices-sort"), headings, () => page.painter.paintNow());
-    }
-
-    leave() {
-        this.rows.clear();
     }
 
     paint() {
@@ -109,7 +105,7 @@ class DeviceRow {
         const now = Date.now();
         if (this.eep !== device.eep)
             this.setProfile(device.eep);
-        setText(this.link, device.label || _("(no label)"));
+        setText(this.link, words.labelText(device));
         this.readings.fill(device);
         this.controls?.fill(device, now);
         setSignal(this.signal, device.dbm);
@@ -123,9 +119,7 @@ class DeviceRow {
         setText(this.kind, words.kindOfProfile(eep));
         this.kind.title = this.kind.textContent;
         const { abilities } = words.PROFILES.get(eep) ?? {};
-        this.controls?.element.remove();
         this.controls = abilities ? new Controls(this.id, abilities, false, this.page) : null;
-        if (this.controls)
-            this.values.parentElement.append(this.controls.element);
+        this.values.parentElement.replaceChildren(this.values, ...this.controls ? [this.controls.element] : []);
     }
 }

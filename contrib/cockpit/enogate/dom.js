@@ -29,10 +29,10 @@ export function showText(node, text) {
     setText(node, text);
 }
 
-/** The options of a list, each a value and a text. */
+/** The options of a list, each a value and a text. One without a value cannot be chosen. */
 export function setOptions(select, options, selected) {
     select.replaceChildren(...options.map(([value, text]) =>
-        element("option", { value, selected: value === selected }, text)));
+        element("option", { value, selected: value === selected, disabled: value === "" }, text)));
 }
 
 /** Calls this when Enter is pressed in a field, which would close its dialog otherwise. */

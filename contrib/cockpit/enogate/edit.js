@@ -1,21 +1,19 @@
-// The dialog that changes the label of a device, replaces the device, or removes it.
+// The dialog that changes the profile and the label of a device, replaces the device, or removes it.
 
 import { addressOf } from "./address.js";
 import { _ } from "./cockpit.js";
-import { acceptField, button, byId, element, onEnter, Rows, setText } from "./dom.js";
+import { button, byId, element, onEnter, Rows, setText } from "./dom.js";
 import { LabelField } from "./label.js";
-import { canHaveProfile } from "./learn.js";
+import { acceptedId, canHaveProfile, setProfiles } from "./learn.js";
 import * as orders from "./orders.js";
 import * as words from "./words.js";
 
 const MAX_SENDERS = 6;
-const ID_RULE = _("Enter the 8 hexadecimal digits of its ID.");
-const NO_SENDER = _("No unknown device of this kind was heard yet.");
 
 export class EditDialog {
     constructor(page) {
-        Object.assign(this, { page, id: null, eep: null, dialog: byId("edit"), newId: byId("edit-new") });
-        this.field = new LabelField("edit", () => this.save());
+        Object.assign(this, { page, dialog: byId("edit"), newId: byId("edit-new"), profile: byId("edit-profile") });
+        this.field = new LabelField("edit", this, () => this.save());
         this.senders = new Rows(byId("edit-senders"), id => senderChoice(id, this.newId));
         this.buttons = ["save", "remove", "sure", "replace", "swap"].map(name => byId(`edit-${name}`));
         onEnter(this.newId, () => this.replace());
@@ -27,10 +25,11 @@ export class EditDialog {
         byId("edit-swap").addEventListener("click", () => this.replace());
     }
 
-    open(id, { label, eep }) {
-        Object.assign(this, { id, eep });
+    open(id, { label, eep, misfit }) {
+        Object.assign(this, { id, eep, label });
         setText(byId("edit-id"), id);
-        setText(byId("edit-profile"), words.profileWithKind(eep));
+        const fitFirst = [...words.PROFILES.keys()].sort((a, b) => b.startsWith(misfit) - a.startsWith(misfit));
+        setProfiles(this.profile, fitFirst, eep);
         setText(byId("edit-result"), "");
         this.field.reset(label);
         this.newId.value = "";
@@ -46,7 +45,7 @@ export class EditDialog {
         byId("edit-remove").hidden = part === "warning";
         byId("edit-replacement").hidden = part !== "replacement";
         byId("edit-replace").hidden = part === "replacement";
-        byId("edit-save").hidden = this.field.input.disabled = part !== "";
+        byId("edit-save").hidden = this.field.input.disabled = this.profile.disabled = part !== "";
         this.paint();
     }
 
@@ -57,13 +56,23 @@ export class EditDialog {
     save() {
         const text = this.field.label();
         if (text !== null && !byId("edit-save").disabled && !byId("edit-save").hidden)
-            this.closeAfter(this.page.give(orders.label(this.id, text)));
+            this.closeAfter(this.change(this.profile.value, text));
+    }
+
+    /** Gives the orders for what somebody has changed. A profile that is not supported is no option of the list. */
+    async change(eep, label) {
+        if (eep && eep !== this.eep) {
+            await this.page.give(orders.add(this.id, eep));
+            this.eep = eep;
+        }
+        if (label !== this.label)
+            await this.page.give(orders.label(this.id, label));
     }
 
     /** Replaces the device, and opens the view of the new one. */
     replace() {
-        const id = orders.idIn(this.newId.value);
-        if (!acceptField(this.newId, id ? "" : ID_RULE) || byId("edit-swap").disabled)
+        const id = acceptedId(this.newId);
+        if (id === null || byId("edit-swap").disabled)
             return;
         const { page } = this;
         this.closeAfter(page.runCommand(orders.replaceCommand(page.gateway, this.id, id)), addressOf("device", id));
@@ -92,7 +101,7 @@ export class EditDialog {
             return;
         const found = [...this.page.model.unknown].filter(([, sender]) => canHaveProfile(sender, this.eep));
         this.senders.fill(found.slice(-MAX_SENDERS).reverse());
-        setText(byId("edit-no-sender"), found.length ? "" : NO_SENDER);
+        setText(byId("edit-no-sender"), found.length ? "" : _("No unknown device of this kind was heard yet."));
     }
 }
 

@@ -30,6 +30,7 @@ export function devicesByState({ devices, opened }, sent, now, minutes) {
         all, silent,
         heard: all.filter(([id, device]) => lastHeardTime(device) !== null && !isSilent.has(id)),
         weak: all.filter(([, device]) => isWeak(device)),
+        misfit: all.filter(([, { misfit }]) => misfit),
         actuators: all.filter(([, { eep }]) => words.PROFILES.get(eep)?.abilities),
         unanswered: all.filter(([id, device]) => sent.has(id) && orderStateOf(sent.get(id), device, now) === "silent"),
     };
@@ -53,15 +54,15 @@ export function heardSentence({ all: { length: count }, heard, silent }, { areDe
 
 const nameOf = ([id, { label }]) => label || id;
 
-/** A problem for each device, or one for all of them if there are many. */
-function deviceProblems(devices, part, textOf, textOfMany) {
+/** A problem for each device, or one for all of them if there are many, with some names if there is no other detail. */
+function deviceProblems(devices, part, detail, textOf, textOfMany) {
     const problem = { level: "warn", action: N_("Show") };
     if (devices.length <= MAX_NAMED_DEVICES) {
-        return devices.map(entry => ({ ...problem, text: textOf(nameOf(entry), entry[1]), detail: "",
+        return devices.map(entry => ({ ...problem, text: textOf(nameOf(entry), entry[1]), detail,
                                        target: addressOf("device", entry[0]) }));
     }
     const names = devices.slice(0, MAX_NAMED_DEVICES).map(nameOf).join(", ");
-    return [{ ...problem, text: format(textOfMany(devices.length), devices.length), detail: `${names} …`,
+    return [{ ...problem, text: format(textOfMany(devices.length), devices.length), detail: detail || `${names} …`,
               target: addressOf("devices", part) }];
 }
 
@@ -106,13 +107,17 @@ export function findProblems({ groups, now, ...facts }) {
         : format(_("$0 was last heard $1"), name, words.ageText(lastHeardTime(device), now));
     const found = gatewayProblems(facts);
     const isBroken = found.some(({ level }) => level === "bad");
-    found.push(...deviceProblems(groups.unanswered, "actuators",
+    const untaught = _("Has it learned this gateway? If not, open the learn window, and press its learn button.");
+    found.push(...deviceProblems(groups.unanswered, "actuators", untaught,
                                  name => format(_("$0 did not answer an order"), name), count =>
-        ngettext("$0 device did not answer an order", "$0 devices did not answer an order", count))
-                       .map(problem => ({ ...problem, detail: _("Has it learned this gateway? Teach it in again.") })),
-               ...deviceProblems(groups.silent, "silent", heard, count =>
+        ngettext("$0 device did not answer an order", "$0 devices did not answer an order", count)),
+               ...deviceProblems(groups.misfit, "misfit", _("Choose another profile: Show, and then Edit …."),
+                                 name => format(_("The last telegram of $0 does not fit its profile"), name), count =>
+        ngettext("The last telegram of $0 device does not fit its profile",
+                 "The last telegrams of $0 devices do not fit their profiles", count)),
+               ...deviceProblems(groups.silent, "silent", "", heard, count =>
                    ngettext("$0 device is silent", "$0 devices are silent", count)),
-               ...deviceProblems(weak, "weak", (name, { dbm }) =>
+               ...deviceProblems(weak, "weak", "", (name, { dbm }) =>
                    format(_("$0 has a weak signal: $1"), name, words.signalText(dbm)), count =>
                    ngettext("$0 device has a weak signal", "$0 devices have a weak signal", count)));
     if (!groups.all.length && model.areDevicesKnown)

@@ -1,7 +1,7 @@
 // The dialog that learns a sender.
 
 import { _, format } from "./cockpit.js";
-import { byId, setOptions, setText } from "./dom.js";
+import { acceptField, byId, onEnter, setOptions, setText, showText } from "./dom.js";
 import { LabelField } from "./label.js";
 import * as orders from "./orders.js";
 import * as words from "./words.js";
@@ -13,49 +13,93 @@ export const canHaveProfile = ({ rorg, eep }, profile) =>
 /** The profiles of the kind of a sender. */
 export const profilesFor = sender => [...words.PROFILES.keys()].filter(profile => canHaveProfile(sender, profile));
 
+/** Shows a list of profiles. Unless one of them is selected, or there is only one, somebody has to choose. */
+export function setProfiles(select, profiles, selected) {
+    const first = profiles.includes(selected) ? selected : profiles.length === 1 ? profiles[0] : "";
+    const options = profiles.map(words.profileOption);
+    setOptions(select, first ? options : [["", _("Choose the profile …")], ...options], first);
+}
+
+const ID_RULE = _("Enter the 8 hexadecimal digits of its ID.");
+const PROFILE_RULE = _("Choose the profile: the data sheet of the device names it.");
+// A sender that was not heard may have any profile.
+const UNHEARD = { rorg: "", eep: null };
+
+/** The ID in a field; null if there is none, and the browser then says so. */
+export function acceptedId(field) {
+    const id = orders.idIn(field.value);
+    return acceptField(field, id ? "" : ID_RULE) ? id : null;
+}
+
 export class LearnDialog {
     constructor(page) {
-        this.page = page;
-        this.id = null;
-        this.isLearned = false;
-        this.dialog = byId("learn");
-        this.field = new LabelField("learn", () => this.learn());
+        // The sender that was heard, and the device that the dialog has learned, if there is one.
+        Object.assign(this, { page, heard: null, learned: null, dialog: byId("learn"), idField: byId("learn-new") });
+        Object.assign(this, { sender: UNHEARD, selectedFor: null, profile: byId("learn-profile") });
+        this.profile.addEventListener("change", () => this.enable(this.profile.value));
+        this.field = new LabelField("learn", this, () => this.learn());
+        onEnter(this.idField, () => this.learn());
         byId("learn-go").addEventListener("click", () => this.learn());
-        byId("learn-profile").addEventListener("change", () => this.allowAnotherProfile());
+        byId("learn-by-id").addEventListener("click", () => this.open(null, UNHEARD));
+        this.dialog.addEventListener("input", () => this.enable());
     }
 
+    get id() {
+        return this.heard ?? orders.idIn(this.idField.value);
+    }
+
+    /** Opens the dialog for a sender that was heard, or without its ID: then it is entered. */
     open(id, sender) {
-        this.id = id;
-        this.isLearned = false;
-        setText(byId("learn-id"), id);
-        const profiles = profilesFor(sender).map(eep => [eep, words.profileWithKind(eep)]);
-        setOptions(byId("learn-profile"), profiles, sender.eep ?? words.USUAL_SWITCH);
-        this.field.reset("");
+        Object.assign(this, { heard: id, sender, chosen: null, selectedFor: "" });
+        setText(byId("learn-id"), id ?? "");
+        byId("learn-sender").hidden = id !== null;
+        this.idField.value = "";
         setText(byId("learn-result"), "");
-        byId("learn-go").disabled = !this.page.canOrderNow;
+        this.field.reset("");
+        this.enable();
         this.dialog.showModal();
+        this.paint();
     }
 
-    /** A device that was learned can be learned with another profile. The gateway keeps its label. */
-    allowAnotherProfile() {
-        if (!this.isLearned)
+    /** Selects the profile of a learned device when its ID is entered. After that, only a choice changes it. */
+    selectProfile() {
+        const { id, selectedFor, sender, page: { model: { devices } } } = this;
+        if (id === selectedFor || !devices.has(id) && selectedFor === null)
             return;
-        this.isLearned = false;
-        setText(byId("learn-result"), "");
+        this.selectedFor = devices.has(id) ? id : null;
+        const likely = this.chosen ?? sender.eep ?? (sender.rorg === "F6" ? words.USUAL_SWITCH : "");
+        setProfiles(this.profile, profilesFor(sender), devices.get(id)?.eep ?? likely);
+    }
+
+    /** A device that was learned can be learned again, with another profile or label, after the answer to an order. */
+    enable(chosen = this.chosen) {
+        Object.assign(this, { learned: null, chosen });
+        if (byId("learn-result").textContent === "…")
+            return;
+        this.selectProfile();
+        byId("learn-hint").hidden = true;
+        const known = this.heard === null && this.page.model.devices.get(this.id);
+        const text = _("$0 is learned already ($1). It gets the profile that you choose.");
+        setText(byId("learn-result"), known ? format(text, known.label || this.id, known.eep) : "");
         byId("learn-go").disabled = !this.page.canOrderNow;
     }
 
     async learn() {
-        const text = this.field.label();
-        if (text === null || byId("learn-go").disabled)
+        this.selectProfile();
+        const id = this.heard ?? acceptedId(this.idField);
+        const eep = id && acceptField(this.profile, this.profile.value ? "" : PROFILE_RULE) && this.profile.value;
+        const label = eep ? this.field.label() : null;
+        if (label === null || byId("learn-go").disabled)
             return;
         byId("learn-go").disabled = true;
         setText(byId("learn-result"), "…");
+        this.selectedFor = id;
         try {
-            await this.page.give(orders.add(this.id, byId("learn-profile").value));
-            if (text)
-                await this.page.give(orders.label(this.id, text));
-            this.isLearned = true;
+            await this.page.give(orders.add(id, eep));
+            if (label)
+                await this.page.give(orders.label(id, label));
+            this.learned = id;
+            byId("learn-hint").hidden = !words.PROFILES.get(eep).abilities && this.sender.rorg !== "D4";
             setText(byId("learn-result"), _("Learned. Press the button of the device again to see its first reading."));
             this.page.refresh();
         } catch (error) {
@@ -64,10 +108,16 @@ export class LearnDialog {
         }
     }
 
-    /** Shows the first reading. */
+    /** Shows what was heard, since its row may have moved before the click; and the first reading. */
     paint() {
-        const device = this.isLearned && this.dialog.open ? this.page.model.devices.get(this.id) : null;
-        if (device && device.readings.size)
+        const { devices, unknown } = this.page.model;
+        const { rorg, received, count } = unknown.get(this.heard) ?? this.sender;
+        showText(byId("learn-heard"), !count || devices.has(this.id) ? ""
+            : `${words.kindText(rorg)}, ${words.ageText(received, Date.now())}, ${count} ×`);
+        if (devices.has(this.id) && this.id !== this.selectedFor)
+            this.enable();
+        const device = devices.get(this.learned);
+        if (device?.readings.size)
             setText(byId("learn-result"), format(_("Learned. Its reading: $0"), words.stateText(device)));
     }
 }

@@ -27,6 +27,7 @@ const CHECK_INTERVAL = 2000;
 const START_TIME = 60000;
 const NO_RIGHTS = _("You can look, but not change anything. Turn on administrative access in Cockpit, or ask an " +
     "administrator to add you to the group enogate.");
+const NO_LINES = _("You can see nothing, since the lines cannot be read. Turn on administrative access in Cockpit.");
 const FEED_TEXTS = { reading: _("reading"), live: _("live"), lost: _("lost"), waiting: _("waiting") };
 // The browser stores after how many minutes a device is silent, and the gateway, also that of each window.
 const [STORED_MINUTES, STORED_GATEWAY] = ["enogate-quiet-minutes", "enogate-gateway"];
@@ -39,6 +40,12 @@ const reasonOf = process => process.then(() => "", failureText);
 
 /** Whether a click on a link opens it in this page, and not in another tab or window. */
 const isPlainClick = event => !event.ctrlKey && !event.metaKey && !event.shiftKey;
+
+/** Removes what only a section that is shown needs. */
+function leave(section) {
+    section.rows?.clear();
+    section.leave?.();
+}
 
 class Page {
     constructor() {
@@ -106,7 +113,7 @@ class Page {
     /** Opens the section that the address of the page names. */
     openView() {
         this.address = location.hash;
-        this.sections[this.section].leave?.();
+        leave(this.sections[this.section]);
         Object.assign(this, viewOf(location.hash));
         for (const name of Object.keys(this.sections))
             byId(name).hidden = name !== this.section;
@@ -145,7 +152,6 @@ class Page {
     updateRights() {
         const before = this.mayOrder;
         this.mayOrder = this.rights.mayOrder;
-        showText(byId("read-only"), this.rights.mayOnlyRead ? NO_RIGHTS : "");
         return this.mayOrder && !before;
     }
 
@@ -173,7 +179,7 @@ class Page {
             this.feed.stop();
         clearTimeout(this.refreshTimer);
         for (const section of Object.values(this.sections)) {
-            section.leave?.();
+            leave(section);
             section.clear?.();
         }
         this.resetGateway();
@@ -357,6 +363,7 @@ class Page {
         const open = left === null ? _("Learn window open")
             : format(_("Learn window open $0"), words.countdownText(left));
         showText(byId("window"), model.isWindowOpen ? open : "");
+        showText(byId("read-only"), !this.rights.mayOnlyRead ? "" : feedState.state === "lost" ? NO_LINES : NO_RIGHTS);
         const stopped = gatewayFault(this.gateway, states, hasStick, settings.get("SERIAL"));
         const wrong = stopped ?? baseFault(this.gateway, settings, model);
         const texts = [feedState.why, wrong && `${wrong.text}. ${wrong.detail}`].filter(Boolean);

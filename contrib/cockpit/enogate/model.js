@@ -29,6 +29,8 @@ const MULTI_UNIT_READINGS = new Set(["MR", "MV"]);
  * @property {?number} dbm
  * @property {?number} received     the time in ms; null if it was before the page was opened
  * @property {?number} recorded     the time of the last telegram before the page was opened, if it is recorded
+ * @property {boolean} hasSent      whether the lines have a telegram
+ * @property {?string} misfit       the RORG of the last telegram, if the profile does not fit it
  *
  * @typedef {Object} Sender         a sender that is not learned
  * @property {string} rorg
@@ -71,6 +73,12 @@ function addReadings(device, readings, now) {
 function dropOldest(list, most) {
     if (list.length > most)
         list.splice(0, list.length - most);
+}
+
+/** Takes from a line of a telegram what holds for all telegrams of a device, also for those that are not decoded. */
+function takeTelegram(device, { dbm, why, rorg }, now) {
+    const misfit = ["wrong_kind", "wrong_length"].includes(why) ? rorg : null;
+    Object.assign(device, { dbm: dbm ?? device.dbm, received: now, hasSent: true, misfit });
 }
 
 /** The time of the last telegram of a device in ms; null if it is not known. */
@@ -117,8 +125,11 @@ export class Model {
             return undefined;
         }
         if (!device || device.eep !== eep) {
-            device = { label: "", dbm: null, received: null, recorded: null, ...device, eep, readings: new Map() };
+            const before = device ? [] : this.packets.filter(({ line }) => line.id === id);
+            device = { label: "", dbm: null, received: null, recorded: null, hasSent: false, ...device, eep,
+                       readings: new Map(), misfit: null };
             this.devices.set(id, device);
+            before.forEach(({ line, time }) => takeTelegram(device, line, time));
         }
         this.unknown.delete(id);
         return device;
@@ -132,8 +143,7 @@ export class Model {
         if (eep.startsWith("F6"))
             device.readings.clear();
         addReadings(device, readings, now);
-        device.dbm = dbm;
-        device.received = now;
+        takeTelegram(device, { dbm }, now);
         // The line of a packet comes directly before that of its readings.
         const packet = this.packets.at(-1);
         if (packet?.number === this.lineCount - 1 && packet.line.id === id)
@@ -144,7 +154,10 @@ export class Model {
         this.hasPackets = true;
         this.packets.push({ number: this.lineCount, line, time: now });
         dropOldest(this.packets, MAX_PACKETS);
-        if (LEARNABLE_REASONS.has(line.why) && !this.devices.has(line.id))
+        const device = this.devices.get(line.id);
+        if (device)
+            takeTelegram(device, line, now);
+        else if (LEARNABLE_REASONS.has(line.why))
             this.takeUnknown(line, now);
     }
 
@@ -166,7 +179,7 @@ export class Model {
         this.taught.push({ number: this.lineCount, line, time: now });
         dropOldest(this.taught, MAX_TEACH_RESULTS);
         if (line.result === "accepted" && line.eep !== null)
-            this.device(line.id, line.eep);
+            Object.assign(this.device(line.id, line.eep) ?? {}, { misfit: null });
         else if (line.result === "deleted")
             this.devices.delete(line.id);
     }

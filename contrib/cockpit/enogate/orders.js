@@ -22,6 +22,9 @@ export const replaceCommand = (gateway, oldId, newId) => ["enogatectl", gateway,
 export const windowCommand = (gateway, order, seconds) =>
     ["enogatectl", "--for", String(seconds), gateway, "--", ...order];
 
+/** The command that writes a backup of a gateway. */
+export const backupCommand = gateway => ["enogatectl", gateway, "backup"];
+
 export const add = (id, eep) => ["add", id, eep];
 export const remove = id => ["remove", id];
 export const label = (id, text) => text === "" ? ["label", id] : ["label", id, text];

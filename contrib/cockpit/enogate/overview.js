@@ -1,14 +1,16 @@
 // The first section: is everything all right, and what needs attention?
 
 import { _, format } from "./cockpit.js";
-import { openService } from "./commands.js";
+import { openService, runCommand } from "./commands.js";
 import { button, byId, element, Rows, setText } from "./dom.js";
 import { findProblems, heardSentence, verdictOf } from "./health.js";
 import { COUNTERS } from "./lines.js";
+import { backupCommand, failureText } from "./orders.js";
 import { baseOf } from "./places.js";
 import * as words from "./words.js";
 
 const SIGN_BY_LEVEL = { bad: "!", warn: "!", info: "i" };
+const NEEDS_ADMIN = _("Restart, Back up and Set up need administrative access.");
 const UNKNOWN_TEXT = _("not known yet");
 const STICK_TEXTS = new Map([[true, _("plugged in")], [false, _("not plugged in")]]);
 
@@ -18,15 +20,26 @@ export const reportedBase = ({ base, baseTime }, now) =>
 
 export class OverviewSection {
     constructor(page) {
-        this.page = page;
+        Object.assign(this, { page, backup: {} });
         this.rows = new Rows(byId("attention"), (key, problem) => new ProblemRow(problem, page));
         byId("gateway-refresh").addEventListener("click", () => page.refresh());
         byId("gateway-restart").addEventListener("click", ({ target }) => page.controlService("restart", target));
+        byId("gateway-backup").addEventListener("click", () => this.backUp());
         byId("gateway-journal").addEventListener("click", () => openService(page.gateway));
     }
 
-    leave() {
-        this.rows.clear();
+    /** Writes a backup, and shows where. Only root and the user of the gateway may write there, and not its group. */
+    backUp() {
+        const { page, page: { gateway } } = this;
+        const show = (output, error) => {
+            this.backup = { gateway, output };
+            if (gateway === page.gateway)
+                page.showError(error);
+            page.painter.paintNow();
+        };
+        show("…", "");
+        runCommand(backupCommand(gateway), "root").then(
+            output => show(format(_("Backup written: $0"), output.trim()), ""), error => show("", failureText(error)));
     }
 
     paint() {
@@ -57,6 +70,9 @@ export class OverviewSection {
         this.showFact("module", reportedBase(model, now), set && model.baseTime !== null ? model.base === set : null);
         this.showFact("window", model.mode === null ? UNKNOWN_TEXT : words.modeText(model.mode), null);
         byId("gateway-restart").disabled = !rights.isAdmin;
+        const note = this.backup.gateway === this.page.gateway ? this.backup.output : "";
+        setText(byId("gateway-note"), note || (rights.permission.allowed === false ? NEEDS_ADMIN : ""));
+        byId("gateway-backup").disabled = !rights.isAdmin || note === "…";
         byId("gateway-refresh").disabled = !canOrderNow;
         const { counters } = model;
         for (const name of COUNTERS)

@@ -1,7 +1,8 @@
 // The section of the packets: a log with the newest ones on top.
 
+import { addressOf } from "./address.js";
 import { _, format, ngettext } from "./cockpit.js";
-import { byId, element, Rows, rowWithCells, setText } from "./dom.js";
+import { byId, element, Rows, rowWithCells, setText, showText } from "./dom.js";
 import { MAX_PACKETS } from "./model.js";
 import * as words from "./words.js";
 
@@ -29,10 +30,6 @@ export class PacketsSection {
         this.page.painter.paintNow();
     }
 
-    leave() {
-        this.rows.clear();
-    }
-
     clear() {
         if (this.paused)
             this.togglePause();
@@ -57,14 +54,20 @@ export class PacketsSection {
     }
 }
 
+/** Fills the cell of a sender in a log. Returns what shows the label of its device: a link to the view of that. */
+export function fillSenderCell(cell, id = "") {
+    const link = element("a", { href: addressOf("device", id), className: "label" });
+    cell.append(link, element("span", { className: "mono minor" }, id));
+    return device => showText(link, device ? words.labelText(device) : "");
+}
+
 /** A packet, with its readings if it had some. */
 export class PacketRow {
     constructor({ line, time }, page) {
         const [row, [clock, device, why, kind, payload, signal]] =
             rowWithCells("time mono", "device", "why", "kind minor", "payload mono minor", "dbm minor");
-        Object.assign(this, { element: row, why, line, page, label: element("strong") });
+        Object.assign(this, { element: row, why, line, page, showDevice: fillSenderCell(device, line.id) });
         row.dataset.why = line.why;
-        device.append(this.label, element("span", { className: "mono minor" }, line.id || ""));
         setText(clock, words.timeText(time));
         setText(kind, line.id ? words.kindText(line.rorg) : format(_("packet of type $0"), line.kind));
         setText(payload, line.id ? `${line.payload} ${line.status}`
@@ -75,7 +78,7 @@ export class PacketRow {
 
     fill({ readings }) {
         const device = this.page.model.devices.get(this.line.id);
-        setText(this.label, device?.label ?? "");
+        this.showDevice(device);
         const hasReadings = readings && device;
         setText(this.why, hasReadings ? words.readingsText(device.eep, readings) : words.reasonText(this.line.why));
     }

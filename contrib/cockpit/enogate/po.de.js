@@ -11,6 +11,12 @@ cockpit.locale({
     "$0 did not answer an order": [null, "$0 hat auf einen Befehl nicht geantwortet"],
     "$0 has a weak signal: $1": [null, "$0 hat schwachen Empfang: $1"],
     "$0 has not been heard": [null, "$0 wurde noch nicht empfangen"],
+    "$0 has this label, too. Orders then need the ID in place of the label.": [
+        null, "Auch $0 hat diese Bezeichnung. Befehle brauchen dann die ID statt der Bezeichnung.",
+    ],
+    "$0 is learned already ($1). It gets the profile that you choose.": [
+        null, "$0 ist bereits eingelernt ($1). Das Gerät erhält das Profil, das Sie wählen.",
+    ],
     "$0 is missing, or you may not read it: only administrators and the group enogate may.": [
         null, "$0 fehlt, oder Sie dürfen es nicht lesen: Das dürfen nur Administratoren und die Gruppe enogate.",
     ],
@@ -23,6 +29,7 @@ cockpit.locale({
         null, "$0 von $1 Geräten wurden empfangen; von $3 ist es noch nicht bekannt.",
     ],
     "$0 of $1 senders are shown.": [null, "$0 von $1 Sendern werden gezeigt."],
+    "$0 to $1 $2": [null, "$0 bis $1 $2"],
     "$0 to $1 since $2": [null, "$0 bis $1 seit $2"],
     "$0 value since $1": [null, "$0 Wert seit $1", "$0 Werte seit $1"],
     "$0 was last heard $1": [null, "$0 wurde zuletzt $1 empfangen"],
@@ -52,6 +59,8 @@ cockpit.locale({
     "BASE is $0, but the base ID of the radio module is $1": [
         null, "BASE ist $0, aber die Basis-ID des Funkmoduls ist $1",
     ],
+    "Back up": [null, "Sichern"],
+    "Backup written: $0": [null, "Sicherung geschrieben: $0"],
     "Base ID": [null, "Basis-ID"],
     "Base ID of the module": [null, "Basis-ID des Funkmoduls"],
     "Blind control": [null, "Jalousieaktor"],
@@ -60,6 +69,13 @@ cockpit.locale({
     "Carbon dioxide": [null, "CO₂"],
     "Carbon dioxide, humidity and temperature sensor": [null, "CO₂-, Feuchte- und Temperatursensor"],
     "Channel": [null, "Kanal"],
+    "Choose another profile: Show, and then Edit ….": [
+        null, "Wählen Sie ein anderes Profil: Anzeigen, und dann Bearbeiten ….",
+    ],
+    "Choose the profile …": [null, "Profil wählen …"],
+    "Choose the profile: the data sheet of the device names it.": [
+        null, "Wählen Sie das Profil: Das Datenblatt des Geräts nennt es.",
+    ],
     "Close": [null, "Schließen"],
     "Contact": [null, "Kontakt"],
     "Continue": [null, "Fortsetzen"],
@@ -96,25 +112,31 @@ cockpit.locale({
     "Group by the first word of the label": [null, "Nach erstem Wort gruppieren"],
     "Groups": [null, "Gruppen"],
     "Groups of actuators": [null, "Gruppen von Aktoren"],
-    "Has it learned this gateway? Teach it in again.": [
-        null, "Hat es dieses Gateway eingelernt? Lernen Sie es neu ein.",
+    "Has it learned this gateway? If not, open the learn window, and press its learn button.": [
+        null, "Hat es dieses Gateway eingelernt? Falls nicht, öffnen Sie das Lernfenster, und drücken Sie seine Lerntaste.",
     ],
     "Heard": [null, "Zuletzt"],
     "Heard, but not learned": [null, "Empfangen, aber nicht eingelernt"],
     "Humidity": [null, "Feuchte"],
     "ID": [null, "ID"],
+    "ID of the device": [null, "ID des Geräts"],
     "ID of the new device": [null, "ID des neuen Geräts"],
     "Ignored": [null, "Ignoriert"],
     "Illuminance": [null, "Helligkeit"],
     "It has a learn button.": [null, "Er hat eine Lerntaste."],
+    "It obeys only after it has learned this gateway.": [
+        null, "Es folgt erst, wenn es dieses Gateway eingelernt hat.",
+    ],
     "Its manual mentions bidirectional teach-in.": [null, "Die Anleitung nennt bidirektionales Einlernen."],
     "Journal": [null, "Journal"],
     "Journal and service": [null, "Journal und Dienst"],
     "Label": [null, "Bezeichnung"],
+    "Label …": [null, "Bezeichnen …"],
     "Last heard": [null, "Zuletzt empfangen"],
     "Last packet": [null, "Letztes Paket"],
     "Last packets": [null, "Letzte Pakete"],
     "Learn": [null, "Einlernen"],
+    "Learn by ID …": [null, "Mit ID einlernen …"],
     "Learn window": [null, "Lernfenster"],
     "Learn window open": [null, "Lernfenster offen"],
     "Learn window open $0": [null, "Lernfenster offen $0"],
@@ -163,6 +185,9 @@ cockpit.locale({
         null, "Nur die Geräte der letzten Zeilen werden gezeigt: Es wurde keine Liste aller Geräte gelesen.",
     ],
     "Open for 2 minutes": [null, "2 Minuten lang öffnen"],
+    "Open the learn window for “Sensor or actuator”, and press its learn button.": [
+        null, "Öffnen Sie das Lernfenster für „Sensor oder Aktor“, und drücken Sie seine Lerntaste.",
+    ],
     "Or you may not see it. To set up a gateway, turn on administrative access in Cockpit, or ask an administrator of this machine.": [
         null,
         "Oder Sie dürfen es nicht sehen. Um ein Gateway einzurichten, schalten Sie in Cockpit den administrativen Zugriff ein, oder fragen Sie einen Administrator dieses Rechners.",
@@ -204,6 +229,9 @@ cockpit.locale({
     "Replace …": [null, "Ersetzen …"],
     "Responses of the module": [null, "Antworten des Funkmoduls"],
     "Restart": [null, "Neustarten"],
+    "Restart, Back up and Set up need administrative access.": [
+        null, "Neustarten, Sichern und Einrichten brauchen administrativen Zugriff.",
+    ],
     "Results": [null, "Ergebnisse"],
     "Rocker": [null, "Wippe"],
     "Rocker switch, 2 rockers": [null, "Wippentaster, 2 Wippen"],
@@ -240,6 +268,7 @@ cockpit.locale({
     "Temperature": [null, "Temperatur"],
     "Temperature and humidity sensor": [null, "Temperatur- und Feuchtesensor"],
     "Temperature sensor": [null, "Temperatursensor"],
+    "The ID is printed on most devices.": [null, "Die ID steht auf den meisten Geräten."],
     "The command enogatectl is not installed: install the package enogate.": [
         null, "Der Befehl enogatectl fehlt: Installieren Sie das Paket enogate.",
     ],
@@ -260,6 +289,14 @@ cockpit.locale({
         null,
         "Das letzte Paket wird gezeigt, von den letzten $1.",
         "Die letzten $0 Pakete werden gezeigt, von den letzten $1.",
+    ],
+    "The last telegram of $0 device does not fit its profile": [
+        null,
+        "Das letzte Telegramm von $0 Gerät passt nicht zu seinem Profil",
+        "Die letzten Telegramme von $0 Geräten passen nicht zu ihren Profilen",
+    ],
+    "The last telegram of $0 does not fit its profile": [
+        null, "Das letzte Telegramm von $0 passt nicht zu seinem Profil",
     ],
     "The learn window is open": [null, "Das Lernfenster ist offen"],
     "The lines cannot be followed: enogatectl has ended.": [
@@ -301,6 +338,10 @@ cockpit.locale({
     "You can look, but not change anything. Turn on administrative access in Cockpit, or ask an administrator to add you to the group enogate.": [
         null,
         "Sie können alles ansehen, aber nichts ändern. Schalten Sie in Cockpit den administrativen Zugriff ein, oder bitten Sie einen Administrator, Sie in die Gruppe enogate aufzunehmen.",
+    ],
+    "You can see nothing, since the lines cannot be read. Turn on administrative access in Cockpit.": [
+        null,
+        "Sie sehen nichts, weil die Zeilen nicht gelesen werden können. Schalten Sie in Cockpit den administrativen Zugriff ein.",
     ],
     "You have no administrative access: turn it on in Cockpit.": [
         null, "Sie haben keinen administrativen Zugriff: Schalten Sie ihn in Cockpit ein.",
@@ -355,7 +396,7 @@ cockpit.locale({
     "lost": [null, "verloren"],
     "no answer": [null, "keine Antwort"],
     "none": [null, "keine"],
-    "not known": [null, "nicht bekannt"],
+    "none known": [null, "keins bekannt"],
     "not known yet": [null, "noch nicht bekannt"],
     "not learned": [null, "nicht eingelernt"],
     "not learned: 1,000 other devices are learned": [null, "nicht eingelernt: 1.000 andere Geräte sind eingelernt"],

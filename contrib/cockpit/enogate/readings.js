@@ -27,12 +27,12 @@ class ReadingElement {
         this.range = isTile ? element("span", { className: "minor" }) : "";
     }
 
-    fill(eep, item, hasChannels) {
-        const { name, value, unit } = words.readingParts(eep, item, hasChannels);
+    fill(eep, item) {
+        const { name, value, unit } = words.readingParts(eep, item);
         setText(this.name, name);
         setText(this.value, value);
         setText(this.unit, unit);
-        this.element.classList.toggle("plain", UNITS_WITHOUT_NAME.has(unit) && !hasChannels);
+        this.element.classList.toggle("plain", UNITS_WITHOUT_NAME.has(unit) && !words.hasChannels(eep));
         if (item.values.length > 1)
             this.draw(item.values);
     }
@@ -60,7 +60,6 @@ class ReadingList {
     fill({ eep, readings }) {
         const all = [...readings.values()];
         const wanted = new Set(this.choose(eep, all));
-        const hasChannels = words.hasChannels(all);
         for (const [key, { element: made }] of this.shown) {
             if (!wanted.has(readings.get(key))) {
                 made.remove();
@@ -69,7 +68,7 @@ class ReadingList {
         }
         for (const [key, item] of readings) {
             if (wanted.has(item))
-                this.elementFor(key).fill(eep, item, hasChannels);
+                this.elementFor(key).fill(eep, item);
         }
     }
 

@@ -1,8 +1,9 @@
 // The learn window: it is opened for a time, which is counted down.
 
 import { _, format } from "./cockpit.js";
-import { byId, Rows, rowWithCells, setOptions, setText } from "./dom.js";
+import { button, byId, Rows, rowWithCells, setOptions, setText, showText } from "./dom.js";
 import { failureText, windowCommand } from "./orders.js";
+import { fillSenderCell } from "./packets.js";
 import * as words from "./words.js";
 
 const WINDOW_SECONDS = 120;
@@ -10,10 +11,9 @@ const WINDOW_SECONDS = 120;
 export class LearnWindowCard {
     constructor(page) {
         this.page = page;
-        this.rows = new Rows(byId("teach-rows"), (key, item) => resultRow(item), false);
+        this.rows = new Rows(byId("teach-rows"), (key, item) => new ResultRow(item, page));
         this.resetWindow();
-        const profiles = [...words.PROFILES.keys()].map(eep => [eep, words.profileWithKind(eep)]);
-        setOptions(byId("teach-profile"), profiles, words.USUAL_SWITCH);
+        setOptions(byId("teach-profile"), [...words.PROFILES.keys()].map(words.profileOption), words.USUAL_SWITCH);
         // Whoever opens the list means it, also if the first profile is right. A key that only moves on does not count.
         for (const event of ["input", "change", "pointerdown", "click", "keydown"]) {
             byId("teach-profile").addEventListener(event, ({ key }) => {
@@ -58,19 +58,17 @@ export class LearnWindowCard {
         this.page.refresh();
     }
 
+    /** There is no window of the page. After one that was open, the usual kind of device is chosen again. */
     resetWindow() {
-        this.process = null;
-        this.until = null;
+        if (this.until)
+            ["on", "answer", "as"].forEach(name => { byId(`teach-${name}`).checked = name === "on"; });
+        Object.assign(this, { process: null, until: null });
     }
 
     /** Closes the window, whoever opened it. Another one can be opened once the command has ended. */
     close() {
         this.process?.close();
         this.page.giveByButton(["learn", "off"], byId("teach-close"));
-    }
-
-    leave() {
-        this.rows.clear();
     }
 
     /** Forgets the gateway: the window that the page has opened there is closed. */
@@ -104,12 +102,29 @@ export class LearnWindowCard {
     }
 }
 
-/** The row of a teach-in result, which does not change. */
-function resultRow({ line, time }) {
-    const [element, cells] = rowWithCells("time mono", "device mono", "profile", "why");
-    element.dataset.why = line.result;
-    const profile = line.eep === null ? _("profile not sent") : words.profileWithKind(line.eep);
-    [words.timeText(time), line.id, profile, words.resultText(line.result)]
-            .forEach((text, index) => setText(cells[index], text));
-    return { element, fill: () => {} };
+/** A teach-in result. Its device can be labelled there, and a sender that was not learned can be learned. */
+class ResultRow {
+    constructor({ line, time }, page) {
+        const [row, [clock, sender, profile, why, action]] =
+            rowWithCells("time mono", "device", "profile", "why", "action");
+        Object.assign(this, { element: row, line, page, button: button("", () => this.openDialog()) });
+        row.dataset.why = line.result;
+        this.showDevice = fillSenderCell(sender, line.id);
+        setText(clock, words.timeText(time));
+        setText(profile, line.eep === null ? _("profile not sent") : words.profileWithKind(line.eep));
+        setText(why, words.resultText(line.result));
+        action.append(this.button);
+    }
+
+    fill({ line: { id } }) {
+        const { devices, unknown } = this.page.model;
+        Object.assign(this, { device: devices.get(id), sender: unknown.get(id) });
+        this.showDevice(this.device);
+        showText(this.button, this.device ? _("Label …") : this.sender ? _("Learn …") : "");
+    }
+
+    openDialog() {
+        const { device, add } = this.page.sections;
+        (this.device ? device : add).dialog.open(this.line.id, this.device ?? this.sender);
+    }
 }

@@ -22,9 +22,19 @@ export const kindOfProfile = eep => PROFILES.has(eep) ? _(PROFILES.get(eep).kind
 /** A profile and the kind of its devices. */
 export const profileWithKind = eep => [eep, kindOfProfile(eep)].filter(Boolean).join(" ");
 
+/** A profile as an option of a list, with its range if other profiles are for devices of the same kind. */
+export function profileOption(eep) {
+    const [first, last, unit] = PROFILES.get(eep).range ?? [];
+    const range = unit && format(_("$0 to $1 $2"), decimalText(first), decimalText(last), unit);
+    return [eep, [profileWithKind(eep), range].filter(Boolean).join(", ")];
+}
+
 /** Whether one of these texts contains the text that is searched for, or the spelling of it that a label can have. */
 export const hasText = (wanted, ...texts) => [wanted, asciiSpelling(wanted) || wanted]
         .some(text => texts.join(" ").toLowerCase().includes(text.toLowerCase()));
+
+/** The label of a device for people. */
+export const labelText = ({ label }) => label || _("(no label)");
 
 export const kindText = rorg => KINDS.has(rorg) ? _(KINDS.get(rorg)) : format(_("telegram $0"), rorg);
 export const reasonText = why => REASONS.has(why) ? _(REASONS.get(why)) : why;
@@ -53,11 +63,12 @@ function valueOf(reading, row) {
 }
 
 /** A reading as texts: its name, with its channel if the device has several, its value, and its unit or nothing. */
-export function readingParts(eep, { reading: members, channel }, hasChannels = false) {
+export function readingParts(eep, { reading: members, channel }) {
     const row = tableRowOf(eep, members);
     const [value, unit] = valueOf(members, row);
     const name = row ? _(row.said) : members.name;
-    return { name: hasChannels && channel !== null ? format(_("channel $0: $1"), channel, name) : name, value, unit };
+    const isOfSeveral = channel !== null && hasChannels(eep);
+    return { name: isOfSeveral ? format(_("channel $0: $1"), channel, name) : name, value, unit };
 }
 
 /** A reading as one text. */
@@ -75,12 +86,12 @@ export function shownReadings(eep, readings) {
     return shown.length ? shown : readings;
 }
 
-/** Whether these readings are of several channels. */
-export const hasChannels = readings => new Set(readings.map(({ channel }) => channel)).size > 1;
+/** Whether a device of this profile has several channels. */
+export const hasChannels = eep => PROFILES.get(eep)?.abilities?.channels.length > 1;
 
 /** Readings of this profile as one text. */
 export const readingsText = (eep, readings) =>
-    shownReadings(eep, readings).map(one => readingText(eep, one, hasChannels(readings))).join(", ");
+    shownReadings(eep, readings).map(one => readingText(eep, one)).join(", ");
 
 /** The readings of a device as one text. */
 export const stateText = ({ eep, readings }) => readingsText(eep, [...readings.values()]);
