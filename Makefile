@@ -1,12 +1,14 @@
 # enogate: a gateway for EnOcean radio devices.
 #
 #   make demo        run the first script of examples/; if the program is not built, rt builds one
-#                    without the proofs first, and its output is kept in target/demo
+#                    without the proofs first, which is kept as target/demo/enogate-unproved
+#   make building    run a virtual building with 50 devices and two gateways, until Ctrl-C, with the
+#                    built program or that of `make demo`
 #   make test        run the whole gate: all proofs, mutants, tests and programs, then the shell tests
 #   make mutants     try all mutants of crates/NAME/mutants, and record which are refused
 #   make build       verify and build the program
-#   make package     create the Debian package of the built program and that of the page in Cockpit, in
-#                    $(PACKAGES), which is this directory if it is not set
+#   make package     create the Debian packages of the built program, of the page in Cockpit, and of the
+#                    virtual building, in $(PACKAGES), which is this directory if it is not set
 #   make package-arm64   create the package for 64-bit ARM there, from what `make build` verified; this
 #                    downloads Debian's cross-compilation packages, and takes a few minutes
 #   make install     install the built program and its files under $(DESTDIR)$(PREFIX); packaging/files
@@ -25,11 +27,14 @@ PROGRAM = crates/enogate/out/enogate
 ARM64 = target/arm64
 SOURCES = crates.txt $(shell find crates -name out -prune -o -name '*.rt' -print -o -name '*.antt' -print)
 
-.PHONY: demo build test mutants package package-arm64 install install-system install-page \
+.PHONY: demo building build test mutants package package-arm64 install install-system install-page \
     uninstall clean
 
 demo:
 	@scripts/demo $$($(MAKE) -s --no-print-directory --question $(PROGRAM) && echo $(PROGRAM))
+
+building:
+	@scripts/building $$($(MAKE) -s --no-print-directory --question $(PROGRAM) && echo $(PROGRAM))
 
 build: $(PROGRAM)
 
@@ -72,4 +77,4 @@ uninstall:
 
 clean:
 	rm -rf crates/*/out target */__pycache__ */*/__pycache__
-	rm -f enogate_*.deb cockpit-enogate_*.deb
+	rm -f enogate_*.deb cockpit-enogate_*.deb enogate-demo_*.deb
