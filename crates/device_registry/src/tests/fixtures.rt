@@ -21,24 +21,15 @@ pub const SENSOR_EEP: Eep = Eep {
     typ: 0x05,
 };
 
-pub const CREATE_META_TABLE: &str =
-    "CREATE TABLE enogate_meta (k INTEGER PRIMARY KEY CHECK (k = 1), \
+const CREATE_META_TABLE: &str = "CREATE TABLE enogate_meta (k INTEGER PRIMARY KEY CHECK (k = 1), \
     version INTEGER NOT NULL) STRICT;";
 
-pub const CREATE_DEVICE_TABLE_V1: &str = "CREATE TABLE enogate_device (\
+const CREATE_DEVICE_TABLE_V1: &str = "CREATE TABLE enogate_device (\
     id INTEGER PRIMARY KEY CHECK (id >= 0 AND id <= 4294967294), \
     eep INTEGER NOT NULL CHECK (eep >= 0 AND eep <= 16777215), \
     maker INTEGER NOT NULL CHECK (maker >= -1 AND maker <= 2047)) STRICT;";
 
-pub const CREATE_DEVICE_TABLE: &str = "CREATE TABLE enogate_device_v2 (\
-    id INTEGER PRIMARY KEY CHECK (id >= 0 AND id <= 4294967294), \
-    eep INTEGER NOT NULL CHECK (eep >= 0 AND eep <= 16777215), \
-    maker INTEGER NOT NULL CHECK (maker >= -1 AND maker <= 2047), \
-    label TEXT NOT NULL) STRICT;";
-
-pub const INSERT_VERSION_1: &str = "INSERT INTO enogate_meta VALUES (1, 1);";
-
-pub const INSERT_VERSION_2: &str = "INSERT INTO enogate_meta VALUES (1, 2);";
+const INSERT_VERSION_1: &str = "INSERT INTO enogate_meta VALUES (1, 1);";
 
 /// The data of a known sender.
 #[derive(Clone, Copy)]
