@@ -1,6 +1,7 @@
 """Gives orders to a gateway, and waits for their answers."""
 from __future__ import annotations
 
+import contextlib
 import os
 import sys
 import time
@@ -12,7 +13,7 @@ from enogate_tools.files import Unsafe, open_file
 from enogate_tools.gateways import Paths
 
 from .answers import Answer, AnswerFinder, is_line_of_order
-from .desk_file import DeskFile, UnusableFile
+from .desk_file import DeskFile, NoAnswer
 from .fence import are_enough_fences, needed_fences
 from .stops import Stopped, block_signals, restore_default_handlers
 
@@ -24,10 +25,6 @@ MAX_LOCK_SECONDS, LOCK_SECONDS_AFTER_ANSWER = 3600.0, 10.0
 # A number of fences that never comes. With it, the process keeps the lock as long as for an order without an answer.
 UNREACHABLE_FENCES = sys.maxsize
 Taken = TypeVar("Taken")
-
-
-class NoAnswer(Exception):
-    """The gateway did not answer in time. The text is a sentence that says why, and what to do."""
 
 
 class UnreadableLines(Exception):
@@ -52,10 +49,10 @@ class Lines:
             # The file appears with the first line.
             pass
         except Unsafe as error:
-            raise UnusableFile(f"the lines {path} cannot be read: {error.strerror}") from error
+            raise UnreadableLines(f"the lines {path} cannot be read: {error.strerror}") from error
         except OSError as error:
-            raise UnusableFile(f"the lines {path} cannot be read: {error.strerror}; become root, or a member of the "
-                               "group enogate (log in again afterwards)") from error
+            raise UnreadableLines(f"the lines {path} cannot be read: {error.strerror}; become root, or a member of the "
+                                  "group enogate (log in again afterwards)") from error
         start = position_at_end(path, earlier)
         self.follower = Follower(path, start, ignore_message)
         # The lines that were read, and not taken.
@@ -107,8 +104,15 @@ class Client:
         """The lines from now on, or NoAnswer if they cannot be read."""
         try:
             return Lines(self.paths.lines)
-        except UnusableFile as error:
+        except UnreadableLines as error:
             raise NoAnswer(str(error)) from error
+
+    def wait_for(self, lines: Lines, take: Callable[[bytes], Taken | None], limit: float, pause: float
+                 ) -> Taken | None:
+        """What `take` returns (Lines.first_result), if it does so until this time. The desk is not locked meanwhile."""
+        while not (found := lines.first_result(take)) and self.clock() < limit:
+            self.sleep(pause)
+        return found
 
     def ask(self, order: str) -> Answer:
         """The answer to this order, or NoAnswer."""
@@ -125,15 +129,9 @@ class Client:
         locked until then. If they get no answers in time, or if a signal stops the command, another process keeps the
         lock until no answer can come any more: otherwise the next order could get the answer of one of these."""
         limit = self.clock() + self.timeout
-        try:
-            file = DeskFile(self.paths.desk)
-            try:
-                self.lock(file, limit)
-                return self.ask_with_lock(file, AnswerFinder(*orders), limit)
-            finally:
-                file.close()
-        except UnusableFile as error:
-            raise NoAnswer(str(error)) from error
+        with contextlib.closing(DeskFile(self.paths.desk)) as file:
+            self.lock(file, limit)
+            return self.ask_with_lock(file, AnswerFinder(*orders), limit)
 
     def lock(self, file: DeskFile, limit: float) -> None:
         """Waits until the desk is locked."""
@@ -145,7 +143,7 @@ class Client:
 
     def ask_with_lock(self, file: DeskFile, finder: AnswerFinder, limit: float) -> tuple[list[Answer], Lines]:
         """Writes the orders and waits for their answers. Returns these, and the lines after them."""
-        lines, answers = Lines(self.paths.lines), None
+        lines, answers = self.follow(), None
         try:
             self.append_orders(file, finder)
             answers = self.wait(file, lines, finder, limit)

@@ -8,7 +8,6 @@ from typing import NamedTuple
 from enogate_lines.contents import Listed, Telegram
 from enogate_lines.entities import ALL_CHANNELS, Table
 
-from .client import LONG_PAUSE, Client, Lines
 from .readings import readings_text
 from .recent import telegram_in
 
@@ -55,12 +54,3 @@ def report_in(line: bytes, order: str) -> Report | None:
     """The report on the order, if this line has it."""
     telegram = telegram_in(line)
     return Report(telegram, line) if telegram and is_report(telegram, order) else None
-
-
-def wait_for_report(client: Client, lines: Lines, order: str, seconds: float) -> Report | None:
-    """The report on an order, if it is in these lines within this time. The lines begin after the answer to the order.
-    The desk is not locked meanwhile."""
-    limit = client.clock() + seconds
-    while not (found := lines.first_result(lambda line: report_in(line, order))) and client.clock() < limit:
-        client.sleep(LONG_PAUSE)
-    return found
