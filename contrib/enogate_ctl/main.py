@@ -14,7 +14,7 @@ from enogate_tools.gateways import Paths, all_paths, why_unknown
 
 from .answers import Answer
 from .command_line import REPORT_TIMEOUT, REPORT_TIMEOUTS, AskBase, BackUp, Command, ComparePlan, ExportDevices
-from .command_line import FollowLines, GiveOrder, ImportDevices, OrderCommand, ReplaceDevice, Serve, ShowDevices
+from .command_line import FollowLines, GiveOrder, ImportDevices, OrderCommand, ReplaceDevice, Serve
 from .command_line import ShowHelp, ShowPaths, parsed
 from .client import LONG_PAUSE, Client, NoAnswer, UnreadableLines
 from .grammar import BASE_ORDER, InvalidOrder, order_with_id

@@ -21,7 +21,7 @@ export class EditDialog {
         byId("edit-remove").addEventListener("click", () => this.showPart("warning"));
         byId("edit-replace").addEventListener("click", () => this.showPart("replacement"));
         byId("edit-sure").addEventListener("click", () =>
-            this.closeAfter(page.give(orders.remove(this.id)), addressOf("devices")));
+            this.closeAfter(page.give(["remove", this.id]), addressOf("devices")));
         byId("edit-swap").addEventListener("click", () => this.replace());
     }
 
@@ -62,11 +62,11 @@ export class EditDialog {
     /** Gives the orders for what somebody has changed. A profile that is not supported is no option of the list. */
     async change(eep, label) {
         if (eep && eep !== this.eep) {
-            await this.page.give(orders.add(this.id, eep));
+            await this.page.give(["add", this.id, eep]);
             this.eep = eep;
         }
         if (label !== this.label)
-            await this.page.give(orders.label(this.id, label));
+            await this.page.give(orders.labelOrder(this.id, label));
     }
 
     /** Replaces the device, and opens the view of the new one. */

@@ -95,9 +95,9 @@ export class LearnDialog {
         setText(byId("learn-result"), "…");
         this.selectedFor = id;
         try {
-            await this.page.give(orders.add(id, eep));
+            await this.page.give(["add", id, eep]);
             if (label)
-                await this.page.give(orders.label(id, label));
+                await this.page.give(orders.labelOrder(id, label));
             this.learned = id;
             byId("learn-hint").hidden = !words.PROFILES.get(eep).abilities && this.sender.rorg !== "D4";
             setText(byId("learn-result"), _("Learned. Press the button of the device again to see its first reading."));
