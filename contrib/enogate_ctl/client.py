@@ -31,12 +31,8 @@ class UnreadableLines(Exception):
     """The lines cannot be read. The text is a sentence that says why, and what to do."""
 
 
-class AnswerTimeout(Exception):
-    """The time for an answer is over."""
-
-
-class AmbiguousAnswer(Exception):
-    """Another program wrote orders at the same moment, and their answers could be taken for those of the command."""
+class PendingAnswer(NoAnswer):
+    """The answer to an order that was written may still come."""
 
 
 class Lines:
@@ -148,16 +144,7 @@ class Client:
             self.append_orders(file, finder)
             answers = self.wait(file, lines, finder, limit)
             return answers, lines
-        except AnswerTimeout as late:
-            self.keep_lock(file, lines, finder)
-            raise NoAnswer(f"the gateway did not answer within {self.timeout:g} s, and may still carry out the order: "
-                           "check the gateway with enogate-check") from late
-        except AmbiguousAnswer as error:
-            self.keep_lock(file, lines, finder)
-            raise NoAnswer("another program gave orders at the same moment, so no answer can be recognized: find out "
-                           "with `list` or `status` whether the order was carried out, and give it again if not"
-                           ) from error
-        except Stopped:
+        except (PendingAnswer, Stopped):
             if file.text and not finder.is_done:
                 self.keep_lock(file, lines, finder)
             raise
@@ -168,7 +155,8 @@ class Client:
     def append_orders(self, file: DeskFile, finder: AnswerFinder) -> None:
         """Writes the orders with the fences that they need. The lines must be open already: then all orders whose
         answers can still come are on the desk when it is read. Other programs may write before the orders are appended,
-        so the desk is read again afterwards. Raises AmbiguousAnswer if the fences turn out to be too few."""
+        so the desk is read again afterwards. Raises PendingAnswer if the fences turn out to be too few: answers to
+        other orders could be taken for those of the command."""
         finder.least = needed_fences(file.read())
         with block_signals():
             file.append(finder.desk_text)
@@ -177,7 +165,9 @@ class Client:
             if not finder.is_status_order and not are_enough_fences(finder.least, desk, file.text):
                 finder.least = finder.least_with_errors = UNREACHABLE_FENCES
         if finder.least == UNREACHABLE_FENCES:
-            raise AmbiguousAnswer
+            raise PendingAnswer("another program gave orders at the same moment, so no answer can be recognized: find "
+                                "out with `list` or `status` whether the order was carried out, and give it again if "
+                                "not")
 
     def wait(self, file: DeskFile, lines: Lines, finder: AnswerFinder, limit: float) -> list[Answer]:
         """The answers, if they come in time and the desk still has the orders then. The time limit begins again with
@@ -194,7 +184,8 @@ class Client:
             if finder.answered_count > count:
                 count, limit = finder.answered_count, self.clock() + self.timeout
             if self.clock() >= limit:
-                raise AnswerTimeout
+                raise PendingAnswer(f"the gateway did not answer within {self.timeout:g} s, and may still carry out "
+                                    "the order: check the gateway with enogate-check")
             self.sleep(PAUSE)
 
     def keep_lock(self, file: DeskFile, lines: Lines, finder: AnswerFinder) -> None:

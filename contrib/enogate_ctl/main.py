@@ -45,7 +45,7 @@ def carry_out(command: Command) -> int:
         sys.stdout.flush()
         return status or OK
     except tuple(STATUSES) as error:
-        return report_failure(str(error), STATUSES[type(error)])
+        return report_failure(str(error), next(status for kind, status in STATUSES.items() if isinstance(error, kind)))
     except Stopped as stopped:
         return stopped.status
     except BrokenPipeError:
@@ -213,11 +213,8 @@ def require_success(answer: Answer) -> Answer:
 def open_window(client: Client, command: GiveOrder, stops: StopSignals) -> None:
     """Opens the learn window for the time of the command."""
     from .window import LearnWindow
-
-    def give(order: str) -> None:
-        require_success(client.ask(order))
-
-    LearnWindow(client, give, print_at_once, stops, command.is_json).open_for(command.order, command.seconds)
+    LearnWindow(client, lambda order: require_success(client.ask(order)), print_at_once, stops,
+                command.is_json).open_for(command.order, command.seconds)
 
 
 def print_at_once(text: str) -> None:

@@ -7,7 +7,7 @@ import unittest
 from dataclasses import dataclass
 
 from enogate_ctl.answers import PACKET_ERRORS, AnswerFinder, parse_line
-from enogate_ctl.client import Client, Lines, AnswerTimeout
+from enogate_ctl.client import Client, Lines, PendingAnswer
 from enogate_ctl.desk_file import NoAnswer
 from enogate_ctl.fence import are_enough_fences, needed_fences
 from enogate_tools.gateways import paths_of
@@ -172,7 +172,7 @@ class InterleavingCase:
         try:
             found = client.wait(self, self, self.finder, 10.0)
             return [[line.raw for line in answer.lines] for answer in found]
-        except AnswerTimeout:
+        except PendingAnswer:
             return "late"
         except NoAnswer:
             return "restarted"
