@@ -55,3 +55,6 @@ export function failureText(error) {
     const lines = String(error.message || error).trim().split("\n");
     return lines[lines.length - 1].replace(/^enogatectl: /, "");
 }
+
+/** Why a command failed; empty if it did not. */
+export const reasonOf = process => process.then(() => "", failureText);
