@@ -302,7 +302,7 @@ def compare_plan(paths: Paths) -> int:
     from . import plan, recent, recorded
     from .sheet import Sheet
     devices = recorded.recorded_devices(paths)
-    heard = recent.last_telegrams(paths.lines).keys() | recent.last_seen_times(paths.bridge, paths.lines).keys()
+    heard = recent.last_reports(paths.lines).keys() | recent.last_seen_times(paths.bridge, paths.lines).keys()
     found = plan.compare(Sheet(read_sheet()), devices, heard)
     print(found.text)
     return OK if found.is_complete else REFUSED
@@ -325,11 +325,12 @@ def back_up(client: Client, command: BackUp) -> None:
     from .backup import write_backup
     devices = require_success(client.ask("list")).devices
     try:
-        path = write_backup(command.folder, command.name, devices, time.time())
+        path, has_replaced = write_backup(command.folder, command.name, devices, time.time())
     except OSError as error:
         why = filter(None, (f"the backup in {command.folder} failed", error.filename, error.strerror))
         raise CommandFailed(": ".join(why)) from error
-    print(f"{path}: {len(devices)} devices")
+    replaced = "; the earlier backup of this day was replaced" if has_replaced else ""
+    print(f"{path}: {len(devices)} devices{replaced}")
 
 
 def print_module_base(path: str) -> None:

@@ -33,7 +33,7 @@ def devices_as_json(found: list[Listed], paths: Paths) -> Iterator[str]:
     reports = last_reports(paths.lines)
     for device in found:
         seen = int(times[device.device].timestamp()) if device.device in times else None
-        telegram, line = reports.get(device.device, (None, b""))
+        telegram, line = reports.get(device.device, [(None, b"")])[0]
         last = json.loads(line) if telegram and telegram.eep == device.eep else {"dbm": None, "readings": []}
         yield json_line({"dbm": last["dbm"], "eep": device.eep, "id": device.device, "label": device.label,
                        "maker": device.maker, "readings": last["readings"], "seen": seen, "type": "device"})

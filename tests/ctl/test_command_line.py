@@ -411,6 +411,8 @@ class ProgramRuns(TimeLimitedTest):
                 path = f"{folder}/hall-{datetime.date.fromtimestamp(1e9)}.tar.gz"
                 self.assertEqual(run_ctl(*words), (0, f"{path}: 0 devices\n", ""))
                 self.assertEqual(self.orders, [["list"]])
+                self.assertEqual(run_ctl(*words), (
+                    0, f"{path}: 0 devices; the earlier backup of this day was replaced\n", ""))
             for answer, status in ((['{"error":"memory","type":"error"}'], 1), (NoAnswer("why"), 3)):
                 with self.patch_answers(answer):
                     self.assertEqual(run_ctl(*words)[:2], (status, ""))
