@@ -101,6 +101,9 @@ test("a window for one device says that it is closed because the device was lear
     // Another program has opened a window.
     [open, { ...TAUGHT, id: "01800AC0" }, CLOSED].forEach(line => made.takeLine(line, 1000));
     assert.equal(note(), learned);
+    // The next window cannot be opened.
+    assert.equal(await noteAfter(), "");
+    assert.equal(await noteAfter(open, TAUGHT, CLOSED), learned);
     made.clear();
     assert.equal(note(), "");
 });
