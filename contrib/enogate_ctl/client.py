@@ -105,7 +105,7 @@ class Client:
 
     def wait_for(self, lines: Lines, take: Callable[[bytes], Taken | None], limit: float, pause: float
                  ) -> Taken | None:
-        """What `take` returns (Lines.first_result), if it does so until this time. The desk is not locked meanwhile."""
+        """What `take` returns (Lines.first_result), if it does so by this time. The desk is not locked meanwhile."""
         while not (found := lines.first_result(take)) and self.clock() < limit:
             self.sleep(pause)
         return found
