@@ -27,8 +27,8 @@ def channel_of(telegram: Telegram) -> int | None:
 
 
 def last_reports(path: str, most: int = MAX_READ_BYTES) -> dict[str, list[tuple[Telegram, bytes]]]:
-    """The last telegram of each device, and the last one of each other channel of it, the newest first, if they are near
-    the end of the lines; and the lines that report them."""
+    """The last telegram of each device, and the last one of each other channel of it, the newest first, if they are
+    near the end of the lines; and the lines that report them."""
     found: dict[str, dict[int | None, tuple[Telegram, bytes]]] = {}
     for line in last_lines(path, most):
         if telegram := telegram_in(line):

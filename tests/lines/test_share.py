@@ -40,6 +40,16 @@ class GuideTables(unittest.TestCase):
         self.assertEqual({kind: "; ".join(sorted(found, key=kind.find)) for kind, found in kinds.items()},
                          {kind: kind for kind in kinds})
 
+    def test_usual_profiles(self):
+        """The column "Supported" is right, and each kind of device is there."""
+        kinds = {""}
+        for device, cell, supported in table("radio.md", "Device | Usual profile | Supported"):
+            for first, last in re.findall(r"(\w\w-\w\w-\w\w)(?: to \w\w-\w\w-(\w\w))?", cell):
+                for number in range(int(first[6:], 16), int(last or first[6:], 16) + 1):
+                    kinds.add(share.device_kind(f"{first[:6]}{number:02X}"))
+                    self.assertEqual(bool(share.device_kind(f"{first[:6]}{number:02X}")), supported == "yes", device)
+        self.assertEqual(kinds, {"", *share.kinds_by_profile().values()})
+
     def test_forms_of_orders(self):
         forms = [form for order in share.order_forms().values() for form, _ in order]
         self.assertEqual(forms, [form for form, *_ in ORDERS if not re.search("[0-9]", form)])

@@ -149,7 +149,7 @@ class HelpAndVersionTest(ProgramTest):
     def test_the_version(self):
         for option in ("--version", "-V"):
             with self.subTest(option=option):
-                self.assert_run(self.run_program(option), "enogate 0.2.0\n")
+                self.assert_run(self.run_program(option), "enogate 0.3.0\n")
 
     def test_replay_has_no_version(self):
         self.assert_usage(self.run_replay("--version"), "unexpected argument '--version'")

@@ -357,7 +357,6 @@ cockpit.locale({
     "answer": [null, "mit Antwort"],
     "as $0": [null, "als $0"],
     "as the radio module reports (BASE is empty)": [null, "wie vom Funkmodul gemeldet (BASE ist leer)"],
-    "asks for something that is not in use": [null, "will etwas, das nicht verwendet wird"],
     "asks to be learned with a profile that is not supported": [
         null, "will mit einem Profil eingelernt werden, das nicht unterstützt wird",
     ],
@@ -438,6 +437,7 @@ cockpit.locale({
     "the sender is no device": [null, "der Sender ist kein Gerät"],
     "three_or_four": [null, "drei oder vier"],
     "unknown": [null, "unbekannt"],
+    "unknown request in its teach-in telegram": [null, "unbekannte Anfrage im Anlerntelegramm"],
     "usually sends at least every $0": [null, "sendet meist mindestens alle $0"],
     "waiting": [null, "wartet"],
     "warning": [null, "Warnung"],

@@ -10,7 +10,7 @@ use clap::{Arg, ArgAction, Command};
 use std::alloc::{AllocError, Global};
 
 // The version that `--version` prints after the program's name.
-const VERSION: &str = "0.2.0";
+const VERSION: &str = "0.3.0";
 
 // The command `enogate` with its subcommands.
 pub(super) fn command<'a>(alloc: Global) -> Result<Command<'a>, AllocError>
