@@ -190,7 +190,8 @@ class RecentTelegrams(GatewayFilesTest):
         self.write(reading("01800ABC", dbm=-50), reading("01800ABD"), reading("01800ABC", dbm=-60), "{", OK,
                    '{"x":1,"type":"reading"}', '{"dbm":-99,"half')
         found = recent.last_reports(str(self.lines))
-        self.assertEqual({name: telegram.dbm for name, [(telegram, _)] in found.items()}, {"01800ABC": -60, "01800ABD": -45})
+        self.assertEqual({name: telegram.dbm for name, [(telegram, _)] in found.items()},
+                         {"01800ABC": -60, "01800ABD": -45})
 
     def append_readings(self, path, *names):
         """Lines as the gateway writes them."""
