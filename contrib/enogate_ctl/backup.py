@@ -18,9 +18,10 @@ from .sheet import devices_as_csv
 MODE, MAX_KEPT_DAYS = 0o640, 30
 
 
-def write_backup(folder: str, name: str, devices: Iterable[Listed], now: float) -> str:
-    """Writes a backup of the gateway in place of that of the same day, keeps only those of this user of the last days
-    that have one, and returns its path, or raises OSError. A day that a wrong clock has named counts as one day."""
+def write_backup(folder: str, name: str, devices: Iterable[Listed], now: float) -> tuple[str, bool]:
+    """Writes a backup of the gateway in place of that of the same day, and keeps only those of this user of the last
+    days that have one. Returns its path, and whether it replaced another one, or raises OSError. A day that a wrong
+    clock has named counts as one day."""
     today = date.fromtimestamp(now)
     file = f"{name}-{today}.tar.gz"
     shape = re.compile(name + r"-([0-9]{4}-[01][0-9]-[0-3][0-9])\.tar\.gz(?:\.[0-9a-f]{16})?")
@@ -44,7 +45,7 @@ def write_backup(folder: str, name: str, devices: Iterable[Listed], now: float) 
                 os.unlink(old, dir_fd=directory)
     finally:
         os.close(directory)
-    return os.path.join(folder, file)
+    return os.path.join(folder, file), file in own
 
 
 def replace_file(directory: int, name: str, contents: dict[str, bytes], now: float, mode: int = MODE) -> None:

@@ -11,15 +11,16 @@ from enogate_lines.contents import Response
 from enogate_tools.port import is_base
 
 from .answers import Answer, Line, parse_line
-from .client import PAUSE, Client, Lines, NoAnswer
+from .client import PAUSE, Client, NoAnswer
 from .grammar import BASE_ORDER
 
 
-def base_id_in(line: Line | None) -> str | None:
-    """The base ID that a line reports; None if it is another line."""
+def base_line(raw: bytes) -> Line | None:
+    """The line, if it reports a base ID."""
+    line = parse_line(raw)
     match line.content if line else None:
         case Response(0, data) if is_base(data):
-            return data
+            return line
     return None
 
 
@@ -30,16 +31,8 @@ def ask_base(client: Client) -> Answer:
     with contextlib.closing(client.follow()) as lines:
         # This order has no errors.
         answer = client.ask(BASE_ORDER)
-        return Answer([*answer.lines, wait_for_base_id(client, lines, limit)])
-
-
-def wait_for_base_id(client: Client, lines: Lines, limit: float) -> Line:
-    """The line that reports the base ID, or NoAnswer if it does not come in time. The desk is not locked meanwhile."""
-    while True:
-        for line in map(parse_line, lines.read()):
-            if line and base_id_in(line):
-                return line
-        if client.clock() >= limit:
-            raise NoAnswer(f"the gateway has asked the radio module, which did not report its base ID within "
-                           f"{client.timeout:g} s: check with enogate-check that the stick is at SERIAL")
-        client.sleep(PAUSE)
+        report = client.wait_for(lines, base_line, limit, PAUSE)
+    if not report:
+        raise NoAnswer(f"the gateway has asked the radio module, which did not report its base ID within "
+                       f"{client.timeout:g} s: check with enogate-check that the stick is at SERIAL")
+    return Answer([*answer.lines, report])

@@ -1,6 +1,7 @@
 """Gives orders to a gateway, and waits for their answers."""
 from __future__ import annotations
 
+import contextlib
 import os
 import sys
 import time
@@ -12,7 +13,7 @@ from enogate_tools.files import Unsafe, open_file
 from enogate_tools.gateways import Paths
 
 from .answers import Answer, AnswerFinder, is_line_of_order
-from .desk_file import DeskFile, UnusableFile
+from .desk_file import DeskFile, NoAnswer
 from .fence import are_enough_fences, needed_fences
 from .stops import Stopped, block_signals, restore_default_handlers
 
@@ -26,20 +27,12 @@ UNREACHABLE_FENCES = sys.maxsize
 Taken = TypeVar("Taken")
 
 
-class NoAnswer(Exception):
-    """The gateway did not answer in time. The text is a sentence that says why, and what to do."""
-
-
 class UnreadableLines(Exception):
     """The lines cannot be read. The text is a sentence that says why, and what to do."""
 
 
-class AnswerTimeout(Exception):
-    """The time for an answer is over."""
-
-
-class AmbiguousAnswer(Exception):
-    """Another program wrote orders at the same moment, and their answers could be taken for those of the command."""
+class PendingAnswer(NoAnswer):
+    """The answer to an order that was written may still come."""
 
 
 class Lines:
@@ -52,10 +45,10 @@ class Lines:
             # The file appears with the first line.
             pass
         except Unsafe as error:
-            raise UnusableFile(f"the lines {path} cannot be read: {error.strerror}") from error
+            raise UnreadableLines(f"the lines {path} cannot be read: {error.strerror}") from error
         except OSError as error:
-            raise UnusableFile(f"the lines {path} cannot be read: {error.strerror}; become root, or a member of the "
-                               "group enogate (log in again afterwards)") from error
+            raise UnreadableLines(f"the lines {path} cannot be read: {error.strerror}; become root, or a member of the "
+                                  "group enogate (log in again afterwards)") from error
         start = position_at_end(path, earlier)
         self.follower = Follower(path, start, ignore_message)
         # The lines that were read, and not taken.
@@ -107,8 +100,15 @@ class Client:
         """The lines from now on, or NoAnswer if they cannot be read."""
         try:
             return Lines(self.paths.lines)
-        except UnusableFile as error:
+        except UnreadableLines as error:
             raise NoAnswer(str(error)) from error
+
+    def wait_for(self, lines: Lines, take: Callable[[bytes], Taken | None], limit: float, pause: float
+                 ) -> Taken | None:
+        """What `take` returns (Lines.first_result), if it does so by this time. The desk is not locked meanwhile."""
+        while not (found := lines.first_result(take)) and self.clock() < limit:
+            self.sleep(pause)
+        return found
 
     def ask(self, order: str) -> Answer:
         """The answer to this order, or NoAnswer."""
@@ -125,15 +125,9 @@ class Client:
         locked until then. If they get no answers in time, or if a signal stops the command, another process keeps the
         lock until no answer can come any more: otherwise the next order could get the answer of one of these."""
         limit = self.clock() + self.timeout
-        try:
-            file = DeskFile(self.paths.desk)
-            try:
-                self.lock(file, limit)
-                return self.ask_with_lock(file, AnswerFinder(*orders), limit)
-            finally:
-                file.close()
-        except UnusableFile as error:
-            raise NoAnswer(str(error)) from error
+        with contextlib.closing(DeskFile(self.paths.desk)) as file:
+            self.lock(file, limit)
+            return self.ask_with_lock(file, AnswerFinder(*orders), limit)
 
     def lock(self, file: DeskFile, limit: float) -> None:
         """Waits until the desk is locked."""
@@ -145,21 +139,12 @@ class Client:
 
     def ask_with_lock(self, file: DeskFile, finder: AnswerFinder, limit: float) -> tuple[list[Answer], Lines]:
         """Writes the orders and waits for their answers. Returns these, and the lines after them."""
-        lines, answers = Lines(self.paths.lines), None
+        lines, answers = self.follow(), None
         try:
             self.append_orders(file, finder)
             answers = self.wait(file, lines, finder, limit)
             return answers, lines
-        except AnswerTimeout as late:
-            self.keep_lock(file, lines, finder)
-            raise NoAnswer(f"the gateway did not answer within {self.timeout:g} s, and may still carry out the order: "
-                           "check the gateway with enogate-check") from late
-        except AmbiguousAnswer as error:
-            self.keep_lock(file, lines, finder)
-            raise NoAnswer("another program gave orders at the same moment, so no answer can be recognized: find out "
-                           "with `list` or `status` whether the order was carried out, and give it again if not"
-                           ) from error
-        except Stopped:
+        except (PendingAnswer, Stopped):
             if file.text and not finder.is_done:
                 self.keep_lock(file, lines, finder)
             raise
@@ -170,7 +155,8 @@ class Client:
     def append_orders(self, file: DeskFile, finder: AnswerFinder) -> None:
         """Writes the orders with the fences that they need. The lines must be open already: then all orders whose
         answers can still come are on the desk when it is read. Other programs may write before the orders are appended,
-        so the desk is read again afterwards. Raises AmbiguousAnswer if the fences turn out to be too few."""
+        so the desk is read again afterwards. Raises PendingAnswer if the fences turn out to be too few: answers to
+        other orders could be taken for those of the command."""
         finder.least = needed_fences(file.read())
         with block_signals():
             file.append(finder.desk_text)
@@ -179,7 +165,9 @@ class Client:
             if not finder.is_status_order and not are_enough_fences(finder.least, desk, file.text):
                 finder.least = finder.least_with_errors = UNREACHABLE_FENCES
         if finder.least == UNREACHABLE_FENCES:
-            raise AmbiguousAnswer
+            raise PendingAnswer("another program gave orders at the same moment, so no answer can be recognized: find "
+                                "out with `list` or `status` whether the order was carried out, and give it again if "
+                                "not")
 
     def wait(self, file: DeskFile, lines: Lines, finder: AnswerFinder, limit: float) -> list[Answer]:
         """The answers, if they come in time and the desk still has the orders then. The time limit begins again with
@@ -196,7 +184,8 @@ class Client:
             if finder.answered_count > count:
                 count, limit = finder.answered_count, self.clock() + self.timeout
             if self.clock() >= limit:
-                raise AnswerTimeout
+                raise PendingAnswer(f"the gateway did not answer within {self.timeout:g} s, and may still carry out "
+                                    "the order: check the gateway with enogate-check")
             self.sleep(PAUSE)
 
     def keep_lock(self, file: DeskFile, lines: Lines, finder: AnswerFinder) -> None:

@@ -112,23 +112,18 @@ class ShowDevices(NamedTuple):
     is_json: bool
 
 
-class ShowLines(NamedTuple):
-    """Prints the lines of a gateway, also those that are written later."""
+class FollowLines(NamedTuple):
+    """Prints the lines of a gateway, also those that are written later; or for people the readings as they come."""
     paths: Paths
-
-
-class ShowReadings(NamedTuple):
-    """Prints the readings of a gateway as they come, for people."""
-    paths: Paths
+    are_for_people: bool
 
 
 class Serve(NamedTuple):
     """Runs the commands that another program requests."""
 
 
-Following = ShowLines | ShowReadings
 OrderCommand = GiveOrder | ExportDevices | ImportDevices | ReplaceDevice | BackUp
-Command = AskBase | ShowPaths | ShowHelp | Serve | OrderCommand | ShowDevices | ComparePlan | Following
+Command = AskBase | ShowPaths | ShowHelp | Serve | OrderCommand | ShowDevices | ComparePlan | FollowLines
 
 
 def seconds_of(text: str) -> float:
@@ -230,7 +225,7 @@ class CommandLine:
             return self.devices()
         if words.order in (["lines"], ["watch"]):
             self.allow(words.order[0], "desk", "lines")
-            return (ShowLines if words.order == ["lines"] else ShowReadings)(self.paths())
+            return FollowLines(self.paths(), words.order == ["watch"])
         if words.order[:1] == ["backup"] and len(words.order) < 3:
             self.allow("backup", "desk", "lines")
             return BackUp(self.paths(), words.timeout, words.gateway, *words.order[1:])

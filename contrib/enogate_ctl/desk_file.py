@@ -10,8 +10,8 @@ from enogate_tools.files import IRREGULAR_FAULT, Unsafe, open_file
 from .stops import block_signals
 
 
-class UnusableFile(Exception):
-    """The desk cannot be used, or an order on it gets no answer. The text is a sentence that says why."""
+class NoAnswer(Exception):
+    """An order gets no answer, or got none in time. The text is a sentence that says why, and what to do."""
 
 
 class DeskFile:
@@ -23,18 +23,17 @@ class DeskFile:
         try:
             self.file = open_file(path, os.O_RDWR | os.O_APPEND)
         except FileNotFoundError as error:
-            raise UnusableFile(f"there is no desk {path}: correct the name of the gateway, or start it; its unit "
-                               "makes the desk") from error
+            raise NoAnswer(f"there is no desk {path}: correct the name of the gateway, or start it; its unit "
+                           "makes the desk") from error
         except Unsafe as error:
             if error.strerror == IRREGULAR_FAULT:
-                raise UnusableFile(f"the desk {path} is not a file: this command cannot use terminals and pipes"
-                                   ) from error
-            raise UnusableFile(f"the desk {path} is not used, because {error.strerror}: it must be a regular file with "
-                               "one name, which belongs to the owner of its directory; delete it, and restart the "
-                               "gateway") from error
+                raise NoAnswer(f"the desk {path} is not a file: this command cannot use terminals and pipes") from error
+            raise NoAnswer(f"the desk {path} is not used, because {error.strerror}: it must be a regular file with "
+                           "one name, which belongs to the owner of its directory; delete it, and restart the "
+                           "gateway") from error
         except OSError as error:
-            raise UnusableFile(f"the desk {path} cannot be opened: {error.strerror}; become root, or a member of the "
-                               "group enogate (log in again afterwards)") from error
+            raise NoAnswer(f"the desk {path} cannot be opened: {error.strerror}; become root, or a member of the "
+                           "group enogate (log in again afterwards)") from error
 
     def lock(self) -> bool:
         """Locks the desk, unless another program has locked it. Returns whether it is locked now."""
@@ -48,8 +47,8 @@ class DeskFile:
         """The content of the desk. After `append`, only the content before that call."""
         size = self.start if self.text else os.fstat(self.file).st_size
         if size > MAX_SIZE:
-            raise UnusableFile(f"the desk {self.path} has more than {MAX_SIZE >> 20} MB: restart the gateway, which "
-                               "empties it")
+            raise NoAnswer(f"the desk {self.path} has more than {MAX_SIZE >> 20} MB: restart the gateway, which "
+                           "empties it")
         return os.pread(self.file, size, 0)
 
     def append(self, text: bytes) -> None:
@@ -63,23 +62,23 @@ class DeskFile:
                 self.text = end + text
                 self.start = os.lseek(self.file, 0, os.SEEK_CUR) - len(self.text)
         except OSError as error:
-            raise UnusableFile(f"the desk {self.path} cannot be written: {error.strerror}") from error
+            raise NoAnswer(f"the desk {self.path} cannot be written: {error.strerror}") from error
         if not is_whole:
-            raise UnusableFile(f"the desk {self.path} could only be written in part, because its file system is full: "
-                               "restart the gateway, which empties the desk")
+            raise NoAnswer(f"the desk {self.path} could only be written in part, because its file system is full: "
+                           "restart the gateway, which empties the desk")
 
     def check(self) -> None:
-        """Raises UnusableFile if the text is no longer on the desk."""
+        """Raises NoAnswer if the text is no longer on the desk."""
         if os.pread(self.file, len(self.text), self.start) != self.text:
-            raise UnusableFile("the gateway was restarted, or its desk was truncated: find out with `list` or `status` "
-                               "whether the order was carried out, and give it again if not")
+            raise NoAnswer("the gateway was restarted, or its desk was truncated: find out with `list` or `status` "
+                           "whether the order was carried out, and give it again if not")
         try:
             is_same = os.path.samestat(os.stat(self.path), os.fstat(self.file))
         except OSError:
             is_same = False
         if not is_same:
-            raise UnusableFile(f"the desk {self.path} was replaced or deleted: restart the gateway, and give the order "
-                               "again")
+            raise NoAnswer(f"the desk {self.path} was replaced or deleted: restart the gateway, and give the order "
+                           "again")
 
     def close(self) -> None:
         """Closes the file. This unlocks it, unless a forked process has it open."""

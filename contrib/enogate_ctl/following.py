@@ -12,7 +12,6 @@ from enogate_lines.inotify import POLL_PAUSE, WatchedFiles
 from enogate_tools.gateways import Paths
 
 from .client import Lines, UnreadableLines
-from .desk_file import UnusableFile
 
 # How many bytes of earlier lines are printed.
 MAX_EARLIER_BYTES = 1 << 20
@@ -23,10 +22,7 @@ def open_lines(paths: Paths, earlier: int = 0) -> Lines:
     of lines nor a desk: the name of the gateway is probably wrong."""
     if is_missing(paths.lines) and is_missing(paths.desk):
         raise UnreadableLines(f"there are no lines {paths.lines}: correct the name of the gateway, or start it")
-    try:
-        return Lines(paths.lines, earlier)
-    except UnusableFile as error:
-        raise UnreadableLines(str(error)) from error
+    return Lines(paths.lines, earlier)
 
 
 def is_missing(path: str) -> bool:

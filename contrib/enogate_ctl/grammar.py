@@ -89,8 +89,7 @@ def order_and_label(words: Sequence[str]) -> tuple[str, str]:
 
 def order_with_id(order: str, device: str) -> str:
     """The order with this ID in the place of ID_PLACEHOLDER."""
-    verb, _, *rest = order.split(" ")
-    made = " ".join((verb, device, *rest))
+    made = order.replace(ID_PLACEHOLDER, device, 1)
     check_order(made)
     return made
 

@@ -7,8 +7,8 @@ from collections.abc import Iterable
 from enogate_lines.contents import Listed
 
 from . import recorded
-from .client import Client, NoAnswer, UnreadableLines
-from .desk_file import DeskFile, UnusableFile
+from .client import Client, UnreadableLines
+from .desk_file import DeskFile
 from .grammar import InvalidOrder, suggestion
 
 
@@ -21,11 +21,8 @@ def are_labels_current(desk: bytes) -> bool:
 
 def listed_devices(client: Client) -> list[Listed] | None:
     """The learned devices as the lines record them; None if a label may have been set since then."""
-    try:
-        with contextlib.closing(DeskFile(client.paths.desk)) as file:
-            desk = file.read()
-    except UnusableFile as error:
-        raise NoAnswer(str(error)) from error
+    with contextlib.closing(DeskFile(client.paths.desk)) as file:
+        desk = file.read()
     with contextlib.suppress(UnreadableLines):
         return recorded.recorded_devices(client.paths) if are_labels_current(desk) else None
     return None

@@ -14,17 +14,21 @@ from enogate_tools.gateways import Paths, all_paths, why_unknown
 
 from .answers import Answer
 from .command_line import REPORT_TIMEOUT, REPORT_TIMEOUTS, AskBase, BackUp, Command, ComparePlan, ExportDevices
-from .command_line import Following, GiveOrder, ImportDevices, OrderCommand, ReplaceDevice, Serve, ShowDevices, ShowHelp
-from .command_line import ShowLines, ShowPaths, ShowReadings, parsed
-from .client import Client, NoAnswer, UnreadableLines
+from .command_line import FollowLines, GiveOrder, ImportDevices, OrderCommand, ReplaceDevice, Serve
+from .command_line import ShowHelp, ShowPaths, parsed
+from .client import LONG_PAUSE, Client, NoAnswer, UnreadableLines
 from .grammar import BASE_ORDER, InvalidOrder, order_with_id
 from .stops import Stopped, StopSignals
 
 OK, REFUSED, INVALID, SILENT, UNREPORTED = 0, 1, 2, 3, 4
 
 
-class OrderFailed(Exception):
-    """The gateway refused the order, or it failed. The text is the name of the error."""
+class CommandFailed(Exception):
+    """The gateway refused the order, or the command failed. The text says why."""
+
+
+# The exit status of each failure.
+STATUSES = {CommandFailed: REFUSED, UnreadableLines: REFUSED, InvalidOrder: INVALID, NoAnswer: SILENT}
 
 
 def main(arguments: Sequence[str] | None = None) -> int:
@@ -39,16 +43,9 @@ def carry_out(command: Command) -> int:
         stops.install()
         status = run(command, stops)
         sys.stdout.flush()
-        return status
-    except OrderFailed as error:
-        from .words import advice
-        return report_failure(advice(str(error)), REFUSED)
-    except UnreadableLines as error:
-        return report_failure(str(error), REFUSED)
-    except InvalidOrder as error:
-        return report_failure(str(error), INVALID)
-    except NoAnswer as error:
-        return report_failure(str(error), SILENT)
+        return status or OK
+    except tuple(STATUSES) as error:
+        return report_failure(str(error), next(status for kind, status in STATUSES.items() if isinstance(error, kind)))
     except Stopped as stopped:
         return stopped.status
     except BrokenPipeError:
@@ -73,8 +70,8 @@ def report_failure(why: str, status: int) -> int:
     return status
 
 
-def run(command: Command, stops: StopSignals) -> int:
-    """Carries out a command, and returns the exit status."""
+def run(command: Command, stops: StopSignals) -> int | None:
+    """Carries out a command, and returns the exit status; None if the command has succeeded."""
     match command:
         case Serve():
             from .serve import serve
@@ -88,41 +85,30 @@ def run(command: Command, stops: StopSignals) -> int:
             print(forms(verb))
             return OK
     become_gateway_user(command.paths)
-    if isinstance(command, ShowDevices | ComparePlan | Following) and (why := why_unknown(command.paths)):
+    if isinstance(command, OrderCommand):
+        return ask_gateway(command, stops)
+    if why := why_unknown(command.paths):
         raise UnreadableLines(why)
     match command:
-        case ShowDevices(paths, is_json):
-            return print_devices(paths, is_json)
         case ComparePlan(paths):
             return compare_plan(paths)
-        case ShowLines(paths):
-            from . import following
-            following.print_lines(paths, sys.stdout.buffer, following.OutputReader(paths.lines, sys.stdout.buffer).wait)
-            return OK
-        case ShowReadings(paths):
-            return show_readings(paths)
-    return ask_gateway(command, stops)
+        case FollowLines(paths, are_for_people):
+            return print_readings(paths) if are_for_people else print_lines(paths)
+    return print_devices(*command)
 
 
-def ask_gateway(command: OrderCommand, stops: StopSignals) -> int:
+def ask_gateway(command: OrderCommand, stops: StopSignals) -> int | None:
     """Carries out a command that gives orders, if the gateway runs, and returns the exit status."""
     if command.paths.name:
         from .running import System, why_not_running
         if why := why_not_running(command.paths, System()):
             raise NoAnswer(why)
     client = Client(command.paths, command.timeout)
-    match command:
-        case ExportDevices():
-            return export_devices(client, command)
-        case ImportDevices():
-            return import_devices(client, command)
-        case ReplaceDevice():
-            return replace_device(client, command)
-        case BackUp():
-            return back_up(client, command)
-        case GiveOrder(seconds=None):
-            return give_order(client, command)
-    return open_window(client, command, stops)
+    if isinstance(command, GiveOrder) and command.seconds is not None:
+        return open_window(client, command, stops)
+    askers = {ExportDevices: export_devices, ImportDevices: import_devices, ReplaceDevice: replace_device,
+              BackUp: back_up, GiveOrder: give_order}
+    return askers[type(command)](client, command)
 
 
 def become_gateway_user(paths: Paths) -> None:
@@ -134,7 +120,7 @@ def become_gateway_user(paths: Paths) -> None:
         raise NoAnswer(f"the rights of the owner of {folders[0]} cannot be taken on: {error.strerror}") from error
 
 
-def give_order(client: Client, command: GiveOrder) -> int:
+def give_order(client: Client, command: GiveOrder) -> int | None:
     """Gives an order, and prints its answer."""
     if command.label:
         command = command._replace(order=order_with_id(command.order, id_with_label(command.label, client)))
@@ -145,8 +131,7 @@ def give_order(client: Client, command: GiveOrder) -> int:
         answer = ask_base(client)
     else:
         answer = client.ask(command.order)
-    print_answer(answer, command)
-    return OK
+    return print_answer(answer, command)
 
 
 def id_with_label(label: str, client: Client) -> str:
@@ -157,7 +142,7 @@ def id_with_label(label: str, client: Client) -> str:
 
 
 def print_answer(answer: Answer, command: GiveOrder) -> None:
-    """Prints an answer, or raises OrderFailed if it is an error."""
+    """Prints an answer, or raises CommandFailed if it is an error."""
     if command.is_json:
         for line in answer.lines:
             print(line.raw.decode("ascii"))
@@ -186,7 +171,8 @@ def give_and_wait(client: Client, command: GiveOrder, seconds: float) -> int:
         if command.wait is None and seconds > REPORT_TIMEOUT:
             print(f"enogatectl: sent; waiting up to {seconds:g} s until {device} reports (Ctrl-C ends the wait)",
                   file=sys.stderr)
-        found = report.wait_for_report(client, lines, command.order, seconds)
+        found = client.wait_for(lines, lambda line: report.report_in(line, command.order), client.clock() + seconds,
+                                LONG_PAUSE)
     if found:
         print(found.line.decode("ascii") if command.is_json else printable(found.text))
     elif verb == "stop" and command.wait is None:
@@ -217,21 +203,18 @@ def answer_text(answer: Answer, paths: Paths) -> str:
 
 
 def require_success(answer: Answer) -> Answer:
-    """The answer, or OrderFailed if it is an error."""
+    """The answer, or CommandFailed if it is an error."""
     if answer.error:
-        raise OrderFailed(answer.error)
+        from .words import advice
+        raise CommandFailed(advice(answer.error))
     return answer
 
 
-def open_window(client: Client, command: GiveOrder, stops: StopSignals) -> int:
+def open_window(client: Client, command: GiveOrder, stops: StopSignals) -> None:
     """Opens the learn window for the time of the command."""
     from .window import LearnWindow
-
-    def give(order: str) -> None:
-        require_success(client.ask(order))
-
-    LearnWindow(client, give, print_at_once, stops, command.is_json).open_for(command.order, command.seconds)
-    return OK
+    LearnWindow(client, lambda order: require_success(client.ask(order)), print_at_once, stops,
+                command.is_json).open_for(command.order, command.seconds)
 
 
 def print_at_once(text: str) -> None:
@@ -240,35 +223,38 @@ def print_at_once(text: str) -> None:
     print(printable(text), flush=True)
 
 
-def show_paths() -> int:
+def show_paths() -> None:
     """Prints where the files of the gateways are."""
     import json
     print(json.dumps(all_paths(), separators=(",", ":"), sort_keys=True))
-    return OK
 
 
-def print_devices(paths: Paths, is_json: bool) -> int:
+def print_devices(paths: Paths, is_json: bool) -> None:
     """Prints the devices as the lines record them."""
     from . import recorded
     found = recorded.recorded_devices(paths)
     for line in recorded.devices_as_json(found, paths) if is_json else [device_table_text(found, paths)]:
         print(line)
-    return OK
 
 
-def show_readings(paths: Paths) -> int:
+def print_lines(paths: Paths) -> None:
+    """Prints the lines, and those that come."""
+    from . import following
+    following.print_lines(paths, sys.stdout.buffer, following.OutputReader(paths.lines, sys.stdout.buffer).wait)
+
+
+def print_readings(paths: Paths) -> None:
     """Prints the readings that come, until Ctrl-C."""
     import signal
     from datetime import datetime
 
+    from . import watching
     from .following import OutputReader
-    from .watching import print_readings
     try:
-        print_readings(paths, datetime.now, print_at_once, OutputReader(paths.lines, sys.stdout).wait)
+        watching.print_readings(paths, datetime.now, print_at_once, OutputReader(paths.lines, sys.stdout).wait)
     except Stopped as stopped:
         if stopped.number != signal.SIGINT:
             raise
-    return OK
 
 
 def device_table_text(devices: Sequence[Listed], paths: Paths) -> str:
@@ -289,13 +275,12 @@ def read_sheet() -> str:
     return decoded(sys.stdin.buffer.read())
 
 
-def export_devices(client: Client, command: ExportDevices) -> int:
+def export_devices(client: Client, command: ExportDevices) -> None:
     """Prints the learned devices as CSV."""
     from .plan import export_with_plan
     from .sheet import Sheet
     sheet = Sheet(read_sheet() if command.has_plan else "")
     print(export_with_plan(require_success(client.ask("list")).devices, sheet), end="")
-    return OK
 
 
 def import_devices(client: Client, command: ImportDevices) -> int:
@@ -317,13 +302,13 @@ def compare_plan(paths: Paths) -> int:
     from . import plan, recent, recorded
     from .sheet import Sheet
     devices = recorded.recorded_devices(paths)
-    heard = recent.last_telegrams(paths.lines).keys() | recent.last_seen_times(paths.bridge, paths.lines).keys()
+    heard = recent.last_reports(paths.lines).keys() | recent.last_seen_times(paths.bridge, paths.lines).keys()
     found = plan.compare(Sheet(read_sheet()), devices, heard)
     print(found.text)
     return OK if found.is_complete else REFUSED
 
 
-def replace_device(client: Client, command: ReplaceDevice) -> int:
+def replace_device(client: Client, command: ReplaceDevice) -> None:
     """Learns a device in place of another one, and prints what was done, and what is left to do."""
     from .replacing import missing_steps
     steps = missing_steps(command, require_success(client.ask("list")).devices)
@@ -333,30 +318,28 @@ def replace_device(client: Client, command: ReplaceDevice) -> int:
             print_at_once(done)
     print_at_once(f"{command.old} was replaced by {command.new}{'' if steps else ' already'}. If it is an actuator, "
                   "teach it this gateway. Programs that use the ID need the new one.")
-    return OK
 
 
-def back_up(client: Client, command: BackUp) -> int:
+def back_up(client: Client, command: BackUp) -> None:
     """Writes the devices and the settings of a gateway to a file, and prints its path."""
     from .backup import write_backup
     devices = require_success(client.ask("list")).devices
     try:
-        path = write_backup(command.folder, command.name, devices, time.time())
+        path, has_replaced = write_backup(command.folder, command.name, devices, time.time())
     except OSError as error:
         why = filter(None, (f"the backup in {command.folder} failed", error.filename, error.strerror))
-        return report_failure(": ".join(why), REFUSED)
-    print(f"{path}: {len(devices)} devices")
-    return OK
+        raise CommandFailed(": ".join(why)) from error
+    replaced = "; the earlier backup of this day was replaced" if has_replaced else ""
+    print(f"{path}: {len(devices)} devices{replaced}")
 
 
-def print_module_base(path: str) -> int:
+def print_module_base(path: str) -> None:
     """Asks the radio module at this port for its base ID, and prints it."""
     from enogate_tools import port as ports
     try:
         base = ports.module_base(path)
     except ports.PortError as error:
-        return report_failure(str(error), REFUSED)
+        raise CommandFailed(str(error)) from error
     if not base:
         raise NoAnswer(ports.NO_MODULE.format(path))
     print(base)
-    return OK

@@ -17,20 +17,23 @@ from enogate_tools.files import is_safe, open_file
 MAX_READ_BYTES = 1 << 20
 BLOCK = 1 << 20
 READING_LINE_END = b'"type":"reading"}'
+# The reading that says which channel of an actuator a telegram is about.
+CHANNEL_READING = "IO"
 
 
-def last_telegrams(path: str, most: int = MAX_READ_BYTES) -> dict[str, Telegram]:
-    """The last telegram of each device, if it is near the end of the lines."""
-    return {device: telegram for device, (telegram, _) in last_reports(path, most).items()}
+def channel_of(telegram: Telegram) -> int | None:
+    """The channel that a telegram is about, if it says so."""
+    return next((reading.number for reading in telegram.readings if reading.name == CHANNEL_READING), None)
 
 
-def last_reports(path: str, most: int = MAX_READ_BYTES) -> dict[str, tuple[Telegram, bytes]]:
-    """The last telegram of each device, if it is near the end of the lines, and the line that reports it."""
-    found: dict[str, tuple[Telegram, bytes]] = {}
+def last_reports(path: str, most: int = MAX_READ_BYTES) -> dict[str, list[tuple[Telegram, bytes]]]:
+    """The last telegram of each device, and the last one of each other channel of it, the newest first, if they are
+    near the end of the lines; and the lines that report them."""
+    found: dict[str, dict[int | None, tuple[Telegram, bytes]]] = {}
     for line in last_lines(path, most):
         if telegram := telegram_in(line):
-            found.setdefault(telegram.device, (telegram, line))
-    return found
+            found.setdefault(telegram.device, {}).setdefault(channel_of(telegram), (telegram, line))
+    return {device: list(reports.values()) for device, reports in found.items()}
 
 
 def telegram_in(line: bytes) -> Telegram | None:

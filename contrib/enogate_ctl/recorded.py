@@ -9,7 +9,6 @@ from enogate_lines.contents import BadLine, Content, Deleted, EndOfList, Learned
 from enogate_tools.gateways import Paths
 
 from .client import Lines, UnreadableLines
-from .desk_file import UnusableFile
 from .recent import last_lines, last_reports, last_seen_times
 
 # How much of the lines is searched for a list. A gateway with 100 devices that send each minute writes less in a day.
@@ -19,10 +18,7 @@ LINE_ENDS = (b'"type":"list"}', b'"type":"device"}', b'"type":"teach"}')
 
 def recorded_devices(paths: Paths) -> list[Listed]:
     """The devices, by ascending ID, or UnreadableLines."""
-    try:
-        Lines(paths.lines).close()
-    except UnusableFile as error:
-        raise UnreadableLines(str(error)) from error
+    Lines(paths.lines).close()
     found = devices_in(last_lines(paths.lines, MAX_SEARCHED_BYTES))
     if found is None:
         raise UnreadableLines(f"no list of the devices is in the lines {paths.lines}: give the order `list` once")
@@ -37,7 +33,7 @@ def devices_as_json(found: list[Listed], paths: Paths) -> Iterator[str]:
     reports = last_reports(paths.lines)
     for device in found:
         seen = int(times[device.device].timestamp()) if device.device in times else None
-        telegram, line = reports.get(device.device, (None, b""))
+        telegram, line = reports.get(device.device, [(None, b"")])[0]
         last = json.loads(line) if telegram and telegram.eep == device.eep else {"dbm": None, "readings": []}
         yield json_line({"dbm": last["dbm"], "eep": device.eep, "id": device.device, "label": device.label,
                        "maker": device.maker, "readings": last["readings"], "seen": seen, "type": "device"})

@@ -8,14 +8,13 @@ from typing import NamedTuple
 from enogate_lines.contents import Listed, Telegram
 from enogate_lines.entities import ALL_CHANNELS, Table
 
-from .client import LONG_PAUSE, Client, Lines
 from .readings import readings_text
-from .recent import telegram_in
+from .recent import channel_of, telegram_in
 
 # An order with this first word asks for one of these values. After other orders, any report shows that they arrived.
 ASKED_READINGS = {"query": {"OV", "POS"}, "meter": {"MV"}}
 # The profiles whose readings have a channel.
-CHANNEL_PROFILES, CHANNEL_READING = "D2-01-", "IO"
+CHANNEL_PROFILES = "D2-01-"
 # The entities that show the outputs of these devices.
 OUTPUTS = ("switch", "light")
 
@@ -34,11 +33,11 @@ class Report(NamedTuple):
 def is_report(telegram: Telegram, order: str) -> bool:
     """Whether this telegram, which came after the order, reports what the order did."""
     verb, device, *numbers = order.split(" ")
-    found = {reading.name: reading.number for reading in telegram.readings}
-    if telegram.device != device.upper() or not ASKED_READINGS.get(verb, found.keys()) & found.keys():
+    found = {reading.name for reading in telegram.readings}
+    if telegram.device != device.upper() or not ASKED_READINGS.get(verb, found) & found:
         return False
     has_channels = telegram.eep.startswith(CHANNEL_PROFILES)
-    return not has_channels or int(numbers[0]) in (ALL_CHANNELS, found.get(CHANNEL_READING))
+    return not has_channels or int(numbers[0]) in (ALL_CHANNELS, channel_of(telegram))
 
 
 def missing_channel(order: str, devices: Iterable[Listed]) -> str:
@@ -55,12 +54,3 @@ def report_in(line: bytes, order: str) -> Report | None:
     """The report on the order, if this line has it."""
     telegram = telegram_in(line)
     return Report(telegram, line) if telegram and is_report(telegram, order) else None
-
-
-def wait_for_report(client: Client, lines: Lines, order: str, seconds: float) -> Report | None:
-    """The report on an order, if it is in these lines within this time. The lines begin after the answer to the order.
-    The desk is not locked meanwhile."""
-    limit = client.clock() + seconds
-    while not (found := lines.first_result(lambda line: report_in(line, order))) and client.clock() < limit:
-        client.sleep(LONG_PAUSE)
-    return found

@@ -28,9 +28,8 @@ import traceback
 from collections.abc import Callable, Iterable
 from dataclasses import dataclass, field
 
-from . import words
-from .command_line import ComparePlan, Following, ImportDevices, Serve, parsed
-from .main import carry_out
+from .command_line import ComparePlan, FollowLines, ImportDevices, Serve, parsed
+from .main import carry_out, report_failure
 from .stops import SIGNALS, Stopped, StopSignals, block_signals, restore_default_handlers
 
 OK, FAILED, INVALID = 0, 1, 2
@@ -67,8 +66,7 @@ def serve(requests: int, answers: int, stops: StopSignals) -> int:
         try:
             server.serve(requests)
         except InvalidRequest as error:
-            status = INVALID
-            print(f"enogatectl: {words.printable(str(error))}", file=sys.stderr)
+            status = report_failure(str(error), INVALID)
         server.end()
     except Stopped as stopped:
         status = stopped.status
@@ -83,9 +81,8 @@ def run(arguments: list[str]) -> int:
     """Runs a command, and returns its exit status."""
     try:
         command = parsed(arguments)
-        if isinstance(command, ImportDevices | ComparePlan | Serve | Following):
-            print("enogatectl: this command cannot be requested", file=sys.stderr)
-            return INVALID
+        if isinstance(command, ImportDevices | ComparePlan | Serve | FollowLines):
+            return report_failure("this command cannot be requested", INVALID)
         return carry_out(command)
     except SystemExit as end:
         return end.code if isinstance(end.code, int) else OK

@@ -20,7 +20,7 @@ class LearnWindow:
     """The learn window of a gateway. `give` gives an order, and raises an exception if it fails. `report` prints a
     line; it may fail if nobody reads it any more."""
 
-    def __init__(self, client: Client, give: Callable[[str], None], report: Callable[[str], None], stops: StopSignals,
+    def __init__(self, client: Client, give: Callable[[str], object], report: Callable[[str], None], stops: StopSignals,
                  is_json: bool = False):
         self.client, self.give, self.print, self.stops, self.is_json = client, give, report, stops, is_json
         self.clock, self.sleep = client.clock, client.sleep

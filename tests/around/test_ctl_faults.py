@@ -14,7 +14,7 @@ import unittest
 
 from bridge_testcase import MAY_SKIP
 from ctl_testcase import OK, REFUSED, SILENT, CtlTest
-from enogate_ctl.desk_file import DeskFile, UnusableFile
+from enogate_ctl.desk_file import DeskFile, NoAnswer
 from enogate_mqtt.desk import Desk
 
 LATE_TEXT = ("the gateway did not answer within 1 s, and may still carry out the order: check the gateway with "
@@ -137,7 +137,7 @@ class FullDesk(unittest.TestCase):
         with contextlib.closing(DeskFile(str(self.desk))) as file:
             try:
                 file.append(order)
-            except UnusableFile:
+            except NoAnswer:
                 return False
         return True
 

@@ -252,7 +252,7 @@ class RightsTable(RightsTest):
         run = subprocess.run(words, capture_output=True, text=True, cwd="/")
         self.assertEqual((run.returncode, run.stderr), (0, ""))
         day = datetime.datetime(2026, 12, 1).timestamp()
-        path = as_user(SERVICE, lambda: write_backup(str(backups), "hall", [], day))
+        path = as_user(SERVICE, lambda: write_backup(str(backups), "hall", [], day)[0])
         self.assertEqual(path, f"{backups}/hall-2026-12-01.tar.gz")
         self.assertIn(b"devices.csv", gzip.decompress(pathlib.Path(path).read_bytes()))
         for mode, source, target in re.findall(r"^system +(\d+) (\S+) +(/etc/default/\S+)$",

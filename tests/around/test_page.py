@@ -329,9 +329,10 @@ class PageTest(unittest.TestCase):
         self.tab("overview")
         self.wait(lambda: browser.find("#gateway-backup").is_enabled(), bool, "the button Back up")
         count = json.loads(ctl("list").splitlines()[-1])["count"]
-        browser.click("#gateway-backup")
         path = f"/var/backups/enogate/hall-{datetime.now():%Y-%m-%d}.tar.gz"
-        wanted = f"Backup written: {path}: {count} devices"
+        replaced = "; the earlier backup of this day was replaced" if os.path.exists(path) else ""
+        browser.click("#gateway-backup")
+        wanted = f"Backup written: {path}: {count} devices{replaced}"
         self.wait(lambda: browser.find("#gateway-note").text, lambda text: text == wanted, wanted)
         return path
 
@@ -707,6 +708,7 @@ class UserActions(PageTest):
         with tarfile.open(path) as archive:
             self.assertIn(b"01800B6B,D5-00-01,Saved", archive.extractfile("devices.csv").read())
         self.shoot("backup")
+        self.back_up()
         shutil.rmtree("/var/backups/enogate")
         self.addCleanup(os.mkdir, "/var/backups/enogate")
         browser.click("#gateway-backup")
@@ -797,6 +799,16 @@ class UserActions(PageTest):
         self.wait_until_hidden("#teach-left")
         self.assertTrue(browser.find("#teach-on").is_selected())
         self.assertFalse(browser.find("#problem").is_displayed(), browser.text("#problem"))
+
+    def test_a_learn_window_for_one_device_says_that_it_was_learned(self):
+        self.tab("add")
+        browser.click("label:has(#teach-as)")
+        browser.click("#teach-open")
+        self.wait_for_text("#teach-mode", "F6-02-01")
+        stick.bring("01800B08", PRESS)
+        self.wait_for_text("#teach-learned", "01800B08 was learned, so the learn window is closed.")
+        self.wait_until_hidden("#window")
+        self.shoot("learned")
 
     def test_the_learn_window_is_closed_when_the_page_is_left(self):
         self.tab("add")

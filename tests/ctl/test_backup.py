@@ -50,7 +50,7 @@ class GatewayBackups(TimeLimitedTest):
         """Those of the gateway and of its bridge, and of no other one."""
         for end in ("", "-hall", "-mqtt", "-mqtt-hall", "-attic", "-mqtt-attic", "-hall.dpkg-old"):
             (self.settings / f"enogate{end}").write_text(f"# {end}\n")
-        self.assertEqual(self.write(), str(self.folder / TODAY))
+        self.assertEqual(self.write(), (str(self.folder / TODAY), False))
         self.assertEqual(self.contents(), {
             "devices.csv": CSV, "enogate": b"# \n", "enogate-hall": b"# -hall\n", "enogate-mqtt": b"# -mqtt\n",
             "enogate-mqtt-hall": b"# -mqtt-hall\n"})
@@ -87,7 +87,7 @@ class GatewayBackups(TimeLimitedTest):
     def test_the_backup_of_the_same_day_is_replaced(self):
         self.put(TODAY)
         before = (self.folder / TODAY).stat().st_ino
-        self.write()
+        self.assertEqual(self.write(), (str(self.folder / TODAY), True))
         self.assertEqual((self.contents(), self.names()), ({"devices.csv": CSV}, [TODAY]))
         self.assertNotEqual((self.folder / TODAY).stat().st_ino, before)
 
@@ -104,7 +104,7 @@ class GatewayBackups(TimeLimitedTest):
         self.put(*old, *kept)
         (self.folder / "hall-2025-12-02.tar.gz").mkdir()
         (self.folder / "hall-2025-12-03.tar.gz").symlink_to(self.folder / kept[0])
-        self.write()
+        self.assertEqual(self.write(), (str(self.folder / TODAY), False))
         self.assertEqual(self.names(), sorted([*kept, TODAY, "hall-2025-12-02.tar.gz", "hall-2025-12-03.tar.gz"]))
 
     def test_a_wrong_clock(self):

@@ -12,8 +12,8 @@ from unittest import mock
 from enogate_ctl import client as clients, main as program
 from enogate_ctl.answers import AnswerFinder
 from enogate_ctl.client import LOCK_SECONDS_AFTER_ANSWER, MAX_LOCK_SECONDS, LONG_PAUSE, PAUSE, Client, Lines, NoAnswer
-from enogate_ctl.command_line import ExportDevices, GiveOrder, ImportDevices, ShowLines, ShowDevices
-from enogate_ctl.desk_file import DeskFile, UnusableFile
+from enogate_ctl.command_line import ExportDevices, FollowLines, GiveOrder, ImportDevices, ShowDevices
+from enogate_ctl.desk_file import DeskFile
 from enogate_tools.gateways import Paths
 from enogate_ctl.stops import SIGNALS, Stopped, StopSignals
 from enogate_tools import files
@@ -391,7 +391,7 @@ class KeptLocks(ClientTest):
         lines = Lines(self.paths.lines)
         try:
             self.make_client().wait_for_last_answer(file, lines, finder)
-        except UnusableFile:
+        except NoAnswer:
             return self.clock.now, "unusable"
         return self.clock.now, "returned"
 
@@ -591,7 +591,7 @@ class UnusableFiles(ClientTest):
             left -= written
             return written
         real, file = os.write, DeskFile(self.paths.desk)
-        with mock.patch("os.write", write), contextlib.suppress(UnusableFile), contextlib.closing(file):
+        with mock.patch("os.write", write), contextlib.suppress(NoAnswer), contextlib.closing(file):
             file.append(orders)
 
     def test_a_part_is_ended_at_once_if_it_fits(self):
@@ -618,7 +618,7 @@ class UnusableFiles(ClientTest):
             other.write("list\n")
         file.check()
         self.desk.write_text("list\nstat")
-        self.assertRaisesRegex(UnusableFile, "was restarted", file.check)
+        self.assertRaisesRegex(NoAnswer, "was restarted", file.check)
 
     def test_signals_are_held_while_it_is_written(self):
         def write(_file, text):
@@ -664,7 +664,7 @@ class OwnerRights(TimeLimitedTest):
     def test_each_command_at_a_gateway_takes_them_on(self):
         paths = Paths("/d/desk", "/l/hall.lines", "/b/hall.db")
         for command in (GiveOrder(paths, 1, False, "list", None), ExportDevices(paths, 1), ImportDevices(paths, 1),
-                        ShowDevices(paths, False), ShowLines(paths)):
+                        ShowDevices(paths, False), FollowLines(paths, False)):
             with mock.patch.object(program.files, "become_owner", side_effect=OSError(1, "Not allowed")) as become, \
                     self.assertRaises(NoAnswer) as found:
                 program.run(command, mock.Mock())

@@ -16,8 +16,8 @@ from unittest import mock
 from enogate_ctl import command_line, following, grammar, main as program, recent, running
 from enogate_ctl.answers import Answer, parse_line
 from enogate_ctl.client import NoAnswer, UnreadableLines
-from enogate_ctl.command_line import AskBase, BackUp, ComparePlan, ExportDevices, GiveOrder, ImportDevices
-from enogate_ctl.command_line import ReplaceDevice, Serve, ShowDevices, ShowHelp, ShowLines, ShowPaths, parsed
+from enogate_ctl.command_line import AskBase, BackUp, ComparePlan, ExportDevices, FollowLines, GiveOrder
+from enogate_ctl.command_line import ImportDevices, ReplaceDevice, Serve, ShowDevices, ShowHelp, ShowPaths, parsed
 from enogate_tools.gateways import Paths, paths_of
 from enogate_ctl.stops import Stopped
 from enogate_tools import VERSION, port as ports, share
@@ -69,8 +69,8 @@ class CommandLines(TimeLimitedTest):
             ("base /dev/enocean", AskBase("/dev/enocean")), ("paths", ShowPaths()),
             ("paths list", GiveOrder(paths_of("paths"), 10.0, False, "list", None)),
             ("paths list --json", GiveOrder(paths_of("paths"), 10.0, True, "list", None)),
-            ("hall lines", ShowLines(HALL)), ("--timeout 3 hall lines", ShowLines(HALL)),
-            ("--desk d --lines l hall lines", ShowLines(Paths("d", "l", HALL.bridge))),
+            ("hall lines", FollowLines(HALL, False)), ("--timeout 3 hall lines", FollowLines(HALL, False)),
+            ("--desk d --lines l hall lines", FollowLines(Paths("d", "l", HALL.bridge), False)),
             ("hall replace 01800abd 01800af0", ReplaceDevice(HALL, 10.0, "01800ABD", "01800AF0", "")),
             ("--timeout 3 hall -- replace Lamp 01800AF0 d2-01-12",
              ReplaceDevice(HALL, 3.0, "Lamp", "01800AF0", "D2-01-12")),
@@ -411,6 +411,8 @@ class ProgramRuns(TimeLimitedTest):
                 path = f"{folder}/hall-{datetime.date.fromtimestamp(1e9)}.tar.gz"
                 self.assertEqual(run_ctl(*words), (0, f"{path}: 0 devices\n", ""))
                 self.assertEqual(self.orders, [["list"]])
+                self.assertEqual(run_ctl(*words), (
+                    0, f"{path}: 0 devices; the earlier backup of this day was replaced\n", ""))
             for answer, status in ((['{"error":"memory","type":"error"}'], 1), (NoAnswer("why"), 3)):
                 with self.patch_answers(answer):
                     self.assertEqual(run_ctl(*words)[:2], (status, ""))

@@ -7,8 +7,8 @@ import unittest
 from dataclasses import dataclass
 
 from enogate_ctl.answers import PACKET_ERRORS, AnswerFinder, parse_line
-from enogate_ctl.client import Client, Lines, AnswerTimeout
-from enogate_ctl.desk_file import UnusableFile
+from enogate_ctl.client import Client, Lines, PendingAnswer
+from enogate_ctl.desk_file import NoAnswer
 from enogate_ctl.fence import are_enough_fences, needed_fences
 from enogate_tools.gateways import paths_of
 from fakes import TimeLimitedTest
@@ -172,9 +172,9 @@ class InterleavingCase:
         try:
             found = client.wait(self, self, self.finder, 10.0)
             return [[line.raw for line in answer.lines] for answer in found]
-        except AnswerTimeout:
+        except PendingAnswer:
             return "late"
-        except UnusableFile:
+        except NoAnswer:
             return "restarted"
 
     def sleep(self, _seconds: float) -> None:
@@ -192,7 +192,7 @@ class InterleavingCase:
     def check(self) -> None:
         """Fails after a restart, which empties the desk."""
         if any(event.who == "restart" for event in self.read_events):
-            raise UnusableFile
+            raise NoAnswer
 
 
 def is_shared(raw: bytes) -> bool:

@@ -139,6 +139,12 @@ class RecordedDevices(GatewayFilesTest):
         self.assertEqual([(members["dbm"], members["readings"]) for members in shown],
                          [(-60, closed), (None, closed), (None, []), (None, [])])
 
+    def test_json_has_the_last_telegram_of_all_channels(self):
+        states = [[{"name": "IO", "raw": channel}] for channel in (0, 1, 0)]
+        self.write(*(reading("01800ABC", "D2-01-12", state) for state in states), device("01800ABC", eep="D2-01-12"),
+                   end_of_list(1))
+        self.assertEqual(json.loads(self.run_command("--json")[1].splitlines()[0])["readings"], states[2])
+
     def test_lines_with_nul_bytes(self):
         """A power failure may leave them. A line after them counts."""
         opened = [{"name": "CO", "word": "open"}]

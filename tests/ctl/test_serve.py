@@ -320,7 +320,7 @@ class ServerCommands(TimeLimitedTest):
         for event in (OSError("why"), InvalidRequest("why")):
             stops = StopSignals()
             with mock.patch.object(Server, "serve", side_effect=event), mock.patch.object(Server, "end") as end, \
-                    mock.patch.object(program, "print", side_effect=BrokenPipeError, create=True), \
+                    mock.patch("builtins.print", side_effect=BrokenPipeError), \
                     self.assertRaises(OSError):
                 program.serve(0, 1, stops)
             end.assert_called_once_with()

@@ -146,6 +146,22 @@ Do?or  01800ABC  D5-00-01  Contact                   Contact closed        -45 d
        01800ABD  A5-02-05  Temperature sensor        Temperature 20.08 °C
        01800ABE  F6-02-01  Rocker switch, 2 rockers                        -45 dBm""")
 
+    def test_each_channel(self):
+        """Of the present profile, in the sequence of their numbers. The signal is that of the last telegram."""
+        def state(channel, output, eep="D2-01-12", dbm=-50):
+            return reading("01800ABC", eep, [{"name": "IO", "raw": channel},
+                                             {"den": 1, "name": "OV", "num": output, "unit": "%"}], dbm)
+
+        def shown(eep="D2-01-12"):
+            return self.shown(device("01800ABC", eep=eep), end_of_list(1)).splitlines()[1].split("channels")[-1].strip()
+        self.write(state(1, 5), state(1, 100), state(0, 0, dbm=-60))
+        self.assertEqual(shown(), "channel 0: Output 0 %, channel 1: Output 100 %  -60 dBm")
+        self.write(state(1, 7, dbm=None))
+        self.assertEqual(shown(), "channel 0: Output 0 %, channel 1: Output 7 %")
+        # A telegram of another profile came later.
+        self.write(state(0, 3, "D2-01-10"))
+        self.assertEqual((shown(), shown("D2-01-10")), ("-50 dBm", "channel 0: Output 3 %  -50 dBm"))
+
     def test_the_width(self):
         listed = Answer(lines_of(device("01800ABC", "x" * 32), end_of_list(1))).devices
         self.assertEqual(device_table(listed, self.paths, NOW, 40).splitlines()[1],
@@ -173,8 +189,9 @@ class RecentTelegrams(GatewayFilesTest):
     def test_the_last_telegram(self):
         self.write(reading("01800ABC", dbm=-50), reading("01800ABD"), reading("01800ABC", dbm=-60), "{", OK,
                    '{"x":1,"type":"reading"}', '{"dbm":-99,"half')
-        found = recent.last_telegrams(str(self.lines))
-        self.assertEqual({name: telegram.dbm for name, telegram in found.items()}, {"01800ABC": -60, "01800ABD": -45})
+        found = recent.last_reports(str(self.lines))
+        self.assertEqual({name: telegram.dbm for name, [(telegram, _)] in found.items()},
+                         {"01800ABC": -60, "01800ABD": -45})
 
     def append_readings(self, path, *names):
         """Lines as the gateway writes them."""
@@ -186,7 +203,7 @@ class RecentTelegrams(GatewayFilesTest):
         size = self.append_readings(self.lines, "01800AB1", "01800AB2", "01800AB3")
         for most, names in ((3 * size, {"01800AB1", "01800AB2", "01800AB3"}), (3 * size - 5, {"01800AB2", "01800AB3"}),
                             (size + 5, {"01800AB3"}), (5, set())):
-            self.assertEqual(recent.last_telegrams(str(self.lines), most).keys(), names, most)
+            self.assertEqual(recent.last_reports(str(self.lines), most).keys(), names, most)
         self.assertEqual(recent.MAX_READ_BYTES, 1 << 20)
 
     def test_rotated_files(self):
@@ -194,12 +211,12 @@ class RecentTelegrams(GatewayFilesTest):
         self.append_readings(self.folder / "hall.lines.1", "01800AB2", "01800AB1")
         self.append_readings(self.lines, "01800AB3")
         path = str(self.lines)
-        self.assertEqual(list(recent.last_telegrams(path)), ["01800AB3", "01800AB1", "01800AB2"])
-        self.assertEqual(recent.last_telegrams(path)["01800AB1"].dbm, -11)
-        self.assertEqual(list(recent.last_telegrams(path, 2 * size + 5)), ["01800AB3", "01800AB1"])
-        self.assertEqual(list(recent.last_telegrams(path, size)), ["01800AB3"])
+        self.assertEqual(list(recent.last_reports(path)), ["01800AB3", "01800AB1", "01800AB2"])
+        self.assertEqual(recent.last_reports(path)["01800AB1"][0][0].dbm, -11)
+        self.assertEqual(list(recent.last_reports(path, 2 * size + 5)), ["01800AB3", "01800AB1"])
+        self.assertEqual(list(recent.last_reports(path, size)), ["01800AB3"])
         self.lines.unlink()
-        self.assertEqual(list(recent.last_telegrams(path)), ["01800AB1", "01800AB2"])
+        self.assertEqual(list(recent.last_reports(path)), ["01800AB1", "01800AB2"])
 
     def test_rotated_files_that_are_none(self):
         """A pipe would hold up the command for good, and a link of either kind may lead to a file that only root may
@@ -209,7 +226,7 @@ class RecentTelegrams(GatewayFilesTest):
         (self.folder / "hall.lines.2").symlink_to(self.folder / "other")
         os.mkfifo(self.folder / "hall.lines.1")
         self.append_readings(self.lines, "01800AB1")
-        self.assertEqual(call_within(10, lambda: list(recent.last_telegrams(str(self.lines)))), ["01800AB1"])
+        self.assertEqual(call_within(10, lambda: list(recent.last_reports(str(self.lines)))), ["01800AB1"])
 
     def test_a_state_that_is_no_file(self):
         self.append_readings(self.lines, "01800ABC")
@@ -274,7 +291,7 @@ class RecentTelegrams(GatewayFilesTest):
         before = len(os.listdir("/proc/self/fd"))
         start = Position(self.lines.stat().st_ino, 0, b"")
         self.assertEqual(recent.devices_after(start, str(self.lines), 999), {"01800ABC"})
-        recent.last_telegrams(str(self.lines))
+        recent.last_reports(str(self.lines))
         self.assertEqual(len(os.listdir("/proc/self/fd")), before)
 
 

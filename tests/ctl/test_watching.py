@@ -9,7 +9,7 @@ from unittest import mock
 
 from enogate_ctl import following, main as program, serve, watching
 from enogate_ctl.client import UnreadableLines
-from enogate_ctl.command_line import ShowReadings, parsed
+from enogate_ctl.command_line import FollowLines, parsed
 from enogate_ctl.stops import Stopped
 from enogate_tools.gateways import Paths, paths_of
 from fakes import OK, GatewayFilesTest, TimeLimitedTest, device, end_of_list, packet, reading, status, teach
@@ -105,7 +105,7 @@ class WatchCommand(TimeLimitedTest):
             self.assertEqual(self.run_with(UnreadableLines(""), "hall"), (1, "", "enogatectl: there is no gateway\n"))
 
     def test_command_lines(self):
-        self.assertEqual(parsed(["hall", "watch"]), ShowReadings(paths_of("hall")))
+        self.assertEqual(parsed(["hall", "watch"]), FollowLines(paths_of("hall"), True))
         for words, text in (("hall watch x", "'watch x' is not an order"),
                             ("watch", "the name of the gateway comes first"),
                             ("hall watch --json", "--json cannot be used with watch"),

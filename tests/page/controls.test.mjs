@@ -3,6 +3,8 @@ import { beforeEach, test } from "node:test";
 
 import { Model } from "../../contrib/cockpit/enogate/model.js";
 import { byId } from "./page.mjs";
+import { orderCommand } from "../../contrib/cockpit/enogate/orders.js";
+import { ordersOfCommands } from "./parser.mjs";
 import { READING } from "./samples.mjs";
 
 const { Controls } = await import("../../contrib/cockpit/enogate/controls.js");
@@ -10,11 +12,16 @@ const { GroupsSection } = await import("../../contrib/cockpit/enogate/groups.js"
 const { PROFILES } = await import("../../contrib/cockpit/enogate/words.js");
 
 const ID = READING.id;
-const given = [];
+// The orders that were given in a test, and in all of them.
+const [given, all] = [[], []];
+const give = order => {
+    given.push(order.join(" "));
+    all.push(order);
+};
 const page = {
-    canOrderNow: true, sent: new Map(), giveToDevice: (id, order) => given.push(order.join(" ")),
+    canOrderNow: true, sent: new Map(), giveToDevice: (id, order) => give(order),
     orderError: async order => {
-        given.push(order.join(" "));
+        give(order);
         return order[0] === "teach" ? "why" : "";
     },
 };
@@ -172,4 +179,11 @@ test("groups are switched, dimmed and taught, and a number that is none is not s
         for (const name of ["on", "off", "level", "teach"])
             assert.equal(byId(`groups-${name}`).disabled, !canOrderNow, name);
     }
+});
+
+test("enogatectl takes the orders of all buttons and sliders", () => {
+    assert.deepEqual(ordersOfCommands(all.map(order => orderCommand("hall", order))),
+                     all.map(order => [order.join(" "), null, true]));
+    const verbs = ["blind", "central", "dim", "level", "meter", "query", "stop", "switch", "teach"];
+    assert.deepEqual([...new Set(all.map(([verb]) => verb))].sort(), verbs);
 });

@@ -32,7 +32,9 @@ const texts = (...given) => attention(...given).map(({ level, text, action }) =>
 test("a signal has one to four bars, and one bar is weak", () => {
     const levels = [null, -100, -86, -85, -76, -75, -66, -65, 0];
     assert.deepEqual(levels.map(health.signalBars), [0, 1, 1, 2, 2, 3, 3, 4, 4]);
-    assert.deepEqual(levels.map(dbm => health.isWeak({ dbm })), levels.map(dbm => health.signalBars(dbm) === 1));
+    const devices = new Map(levels.map((dbm, number) => [String(number), { dbm, received: NOW }]));
+    const { weak } = health.devicesByState({ devices, opened: 0 }, new Map(), NOW, 1);
+    assert.deepEqual(weak.map(([, { dbm }]) => dbm), [-100, -86]);
 });
 
 test("a device that was not received since the page was opened is quiet after the same time", () => {

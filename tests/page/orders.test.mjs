@@ -5,47 +5,19 @@ import { test } from "node:test";
 
 import "./page.mjs";
 import * as orders from "../../contrib/cockpit/enogate/orders.js";
+import { ordersOfCommands } from "./parser.mjs";
 import { HOSTILE } from "./samples.mjs";
 
 const ID = "01800ABC";
 
-/** What enogatectl would write to the desk for these commands, each an array of words, or null if it refuses them. */
-function ordersOfCommands(commands) {
-    const program = [
-        "import contextlib, io, json, sys",
-        "from enogate_ctl.command_line import parsed",
-        "def order(words):",
-        "    try:",
-        "        with contextlib.redirect_stderr(io.StringIO()):",
-        "            give = parsed(words[1:])",
-        "        return [give.order, give.seconds, give.is_json]",
-        "    except SystemExit:",
-        "        return None",
-        "print(json.dumps([order(words) for words in json.load(sys.stdin)]))",
-    ].join("\n");
-    const contrib = new URL("../../contrib", import.meta.url).pathname;
-    const options = { input: JSON.stringify(commands), env: { ...process.env, PYTHONPATH: contrib } };
-    return JSON.parse(execFileSync("python3", ["-B", "-c", program], options));
-}
-
 test("enogatectl takes each command of the page for the order that is meant", () => {
     const wanted = new Map([
-        ["add 01800ABC D5-00-01", orders.add(ID, "D5-00-01")],
-        ["remove 01800ABC", orders.remove(ID)],
-        ["label 01800ABC Front door, \"A\"", orders.label(ID, "Front door, \"A\"")],
-        ["label 01800ABC --json", orders.label(ID, "--json")],
-        ["label 01800ABC -- x", orders.label(ID, "-- x")],
-        ["label 01800ABC", orders.label(ID, "")],
-        ["switch 01800ABC 0 on", orders.switchOrder(ID, 0, true)],
-        ["switch 01800ABC 30 off", orders.switchOrder(ID, orders.ALL_CHANNELS, false)],
-        ["dim 01800ABC 1 50", orders.dimOrder(ID, 1, 50)],
-        ["query 01800ABC 0", orders.queryOrder(ID, 0)],
-        ["blind 01800ABC 100", orders.blindOrder(ID, 100)],
-        ["stop 01800ABC", orders.stopOrder(ID)],
-        ["meter 01800ABC 1 energy", orders.meterOrder(ID, 1, "energy")],
-        ["meter 01800ABC 30 power", orders.meterOrder(ID, orders.ALL_CHANNELS, "power")],
-        ["central 0 on", orders.centralOrder(0, true)], ["central 127 off", orders.centralOrder(127, false)],
-        ["level 3 100 255", orders.levelOrder(3, 100, 255)], ["teach 5", orders.teachOrder(5)],
+        ["add 01800ABC D5-00-01", ["add", ID, "D5-00-01"]],
+        ["remove 01800ABC", ["remove", ID]],
+        ["label 01800ABC Front door, \"A\"", orders.labelOrder(ID, "Front door, \"A\"")],
+        ["label 01800ABC --json", orders.labelOrder(ID, "--json")],
+        ["label 01800ABC -- x", orders.labelOrder(ID, "-- x")],
+        ["label 01800ABC", orders.labelOrder(ID, "")],
         ["list", ["list"]], ["base", ["base"]], ["learn off", ["learn", "off"]],
     ]);
     const commands = [...wanted.values()].map(order => orders.orderCommand("hall", order));
@@ -64,9 +36,10 @@ test("enogatectl takes the command for the recorded devices for one that gives n
 });
 
 test("a hostile label is one argument, which is a label of enogatectl or refused by it", () => {
+    const command = text => orders.orderCommand("hall", orders.labelOrder(ID, text));
     for (const text of HOSTILE.filter(Boolean))
-        assert.equal(orders.orderCommand("hall", orders.label(ID, text)).filter(word => word === text).length, 1, text);
-    const results = ordersOfCommands(HOSTILE.map(text => orders.orderCommand("hall", orders.label(ID, text))));
+        assert.equal(command(text).filter(word => word === text).length, 1, text);
+    const results = ordersOfCommands(HOSTILE.map(command));
     results.forEach((result, index) => {
         const text = HOSTILE[index];
         assert.deepEqual(result, orders.isLabel(text) ? [`label ${ID}${text && ` ${text}`}`, null, true] : null, text);

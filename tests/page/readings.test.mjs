@@ -23,17 +23,17 @@ const SWITCH = [{ name: "IO", raw: 1 }, { name: "PFD", raw: 0 }, number("OV", 10
 test("a reading is its name, its value and its unit, and is filled again", () => {
     const shown = place();
     const readings = readingChips(shown);
-    readings.fill(device("A5-04-01", [number("HUM", 50, "%"), number("TMP", 20, "C")]));
+    readings.show(device("A5-04-01", [number("HUM", 50, "%"), number("TMP", 20, "C")]));
     assert.equal(shown.textContent, "Humidity 50 %Temperature 20 °C");
     const [humidity, temperature] = shown.children;
-    readings.fill(device("A5-04-01", [number("TMP", 21, "C"), number("HUM", 51, "%")]));
+    readings.show(device("A5-04-01", [number("TMP", 21, "C"), number("HUM", 51, "%")]));
     assert.deepEqual(shown.children, [humidity, temperature]);
     assert.equal(temperature.textContent, "Temperature 21 °C");
     // The unit says what was measured, but "%" does not.
     assert.deepEqual(shown.children.map(({ classList }) => classList.contains("plain")), [false, true]);
-    readings.fill(device("A5-04-01", [number("HUM", 52, "%")]));
+    readings.show(device("A5-04-01", [number("HUM", 52, "%")]));
     assert.equal(shown.textContent, "Humidity 52 %");
-    readings.fill(device("A5-04-01", [number("HUM", 52, "%"), number("TMP", 9, "C")]));
+    readings.show(device("A5-04-01", [number("HUM", 52, "%"), number("TMP", 9, "C")]));
     assert.equal(shown.textContent, "Humidity 52 %Temperature 9 °C");
 });
 
@@ -41,7 +41,7 @@ test("details are shown apart in the view of a device, and each reading once", (
     const [list, main, more] = [place(), place(), place()];
     const both = device("D2-01-12", SWITCH);
     for (const [make, where] of [[readingChips, list], [readingTiles, main], [detailReadingChips, more]])
-        make(where).fill(both);
+        make(where).show(both);
     assert.deepEqual([list, main, more].map(({ textContent }) => textContent.trim()),
                      ["channel 1: Output 100 %", "channel 1: Output 100 %",
                       "channel 1: Channel 1 channel 1: Power failure 0"]);
@@ -49,7 +49,7 @@ test("details are shown apart in the view of a device, and each reading once", (
 
 test("two channels are named, also if the unit says what was measured", () => {
     const shown = place();
-    readingChips(shown).fill(device("D2-01-12", [{ name: "IO", raw: 0 }, number("MV", 5, "W")],
+    readingChips(shown).show(device("D2-01-12", [{ name: "IO", raw: 0 }, number("MV", 5, "W")],
                                     [{ name: "IO", raw: 1 }, number("MV", 6, "W")]));
     assert.equal(shown.textContent, "channel 0: Power 5 Wchannel 1: Power 6 W");
     assert.ok(shown.children.every(({ classList }) => !classList.contains("plain")));
@@ -62,9 +62,9 @@ test("a number that has come twice has a plot, and a tile also its range", () =>
         const shown = place();
         const readings = make(shown);
         const values = [[number("TMP", 20, "C")], [number("TMP", 18, "C")], [number("TMP", 19, "C")]];
-        readings.fill(device("A5-02-05", values[0]));
+        readings.show(device("A5-02-05", values[0]));
         assert.deepEqual(plots(shown), []);
-        readings.fill(device("A5-02-05", ...values));
+        readings.show(device("A5-02-05", ...values));
         assert.deepEqual(plots(shown), [3]);
         assert.equal(/18 to 20 since/.test(shown.textContent), make === readingTiles);
     }

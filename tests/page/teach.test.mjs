@@ -75,6 +75,39 @@ test("a window that closes by itself is shown as closed, and can be opened again
     assert.equal(windows().length, 2);
 });
 
+test("a window for one device says that it is closed because the device was learned", async () => {
+    const { made } = card();
+    const open = { ...STATUS, mode: "as D5-00-01" };
+    const note = () => {
+        made.paint();
+        return byId("teach-learned").hidden ? "" : byId("teach-learned").textContent;
+    };
+    const noteAfter = async (...lines) => {
+        processes.length = 0;
+        byId("teach-open").click();
+        assert.equal(note(), "");
+        lines.forEach(line => made.takeLine(line, 1000));
+        windows()[0].resolve();
+        await settle();
+        return note();
+    };
+    assert.equal(note(), "");
+    assert.equal(await noteAfter(open, { ...TAUGHT, result: "full" }, CLOSED), "");
+    // The order `add` has learned it, and somebody has closed the window.
+    assert.equal(await noteAfter(open, TAUGHT, open, CLOSED), "");
+    assert.equal(await noteAfter(TAUGHT, open, CLOSED), "");
+    const learned = "01800ABC was learned, so the learn window is closed.";
+    assert.equal(await noteAfter(open, TAUGHT, CLOSED, CLOSED), learned);
+    // Another program has opened a window.
+    [open, { ...TAUGHT, id: "01800AC0" }, CLOSED].forEach(line => made.takeLine(line, 1000));
+    assert.equal(note(), learned);
+    // The next window cannot be opened.
+    assert.equal(await noteAfter(), "");
+    assert.equal(await noteAfter(open, TAUGHT, CLOSED), learned);
+    made.clear();
+    assert.equal(note(), "");
+});
+
 test("the window says what has to be pressed, also if another program has opened it", () => {
     const { made, page } = card();
     const shown = mode => {

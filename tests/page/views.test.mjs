@@ -22,6 +22,7 @@ let page = null;
 
 /** The page with a contact and a weak actuator, each with a packet. */
 beforeEach(() => {
+    byId("device-readings").replaceChildren();
     const model = new Model(0);
     const open = { name: "CO", word: "open" };
     for (const [id, eep, dbm, reading] of [
@@ -146,6 +147,18 @@ test("the view of a device has its readings, its packets and all its orders", ()
     assert.deepEqual([text("device-id"), text("device-readings"), text("device-interval"), byId("device-act").hidden],
                      [CONTACT, "Contact open", "usually sends at least every 30 min", true]);
     assert.equal(byId("device-packets").children.length, 1);
+});
+
+test("the view of a device has no plot of the one before", () => {
+    const section = new DeviceSection(page);
+    const sensors = [["01800A03", 3], ["01800A04", 1], ["01800A03", 3]];
+    for (const [id, count] of sensors.slice(0, 2))
+        Array.from({ length: count }, (_, number) => page.model.take({ ...READING, id }, 1000 * number));
+    for (const [id, count] of sensors) {
+        page.part = id;
+        section.paint();
+        assert.equal(byId("device-readings").querySelectorAll("polyline").length, count > 1 ? 1 : 0, id);
+    }
 });
 
 test("the age of the last telegram fits the packets below it, also if they had no readings", () => {

@@ -40,12 +40,9 @@ export async function firstGateway(names, last) {
     return names.find((_, index) => states[index]?.ActiveState === "active") ?? names[0];
 }
 
-/** Whether the stick is plugged in. */
-export function hasStick(serial) {
-    const isMissing = error => error.exit_status === 1;
-    return cockpit.spawn(["test", "-c", serial], READ_OPTIONS)
-            .then(() => true, error => isMissing(error) ? false : null);
-}
+/** Whether the stick is plugged in; null if this is not known. */
+export const hasStick = serial => cockpit.spawn(["test", "-c", serial], READ_OPTIONS)
+        .then(() => true, error => error.exit_status === 1 ? false : null);
 
 /** The devices as the lines record them; none if this user may not read the lines. */
 export const recordedDevices = async gateway => recordedDevicesIn(await outputOf(orders.recordedCommand(gateway)));

@@ -4,7 +4,7 @@ import { addressOf } from "./address.js";
 import { orderStateOf } from "./answers.js";
 import { _, format } from "./cockpit.js";
 import { button, element, setOptions, setText } from "./dom.js";
-import * as orders from "./orders.js";
+import { ALL_CHANNELS } from "./orders.js";
 
 const STATE_TEXTS = new Map([
     ["sending", "…"], ["sent", _("sent …")], ["answered", _("✓ answered")], ["silent", _("no answer")],
@@ -35,7 +35,7 @@ export class Controls {
     channelSelect(numbers) {
         const made = element("select", { ariaLabel: _("Channel"), title: _("Channel") });
         setOptions(made, numbers.map(number =>
-            [String(number), number === orders.ALL_CHANNELS ? _("all") : format(_("ch $0"), number)]));
+            [String(number), number === ALL_CHANNELS ? _("all") : format(_("ch $0"), number)]));
         return made;
     }
 
@@ -54,22 +54,22 @@ export class Controls {
     }
 
     blindControls(isFull) {
-        const moves = buttonGroup(this.orderButton("▲", () => orders.blindOrder(this.id, 0), _("Up")),
-                                  this.orderButton("■", () => orders.stopOrder(this.id), _("Stop")),
-                                  this.orderButton("▼", () => orders.blindOrder(this.id, 100), _("Down")));
-        const more = () => [this.orderSlider(_("Position in percent"), percent => orders.blindOrder(this.id, percent)),
-                            this.orderButton(_("Ask for its state"), () => orders.queryOrder(this.id, 0))];
+        const moves = buttonGroup(this.orderButton("▲", () => ["blind", this.id, 0], _("Up")),
+                                  this.orderButton("■", () => ["stop", this.id], _("Stop")),
+                                  this.orderButton("▼", () => ["blind", this.id, 100], _("Down")));
+        const more = () => [this.orderSlider(_("Position in percent"), percent => ["blind", this.id, percent]),
+                            this.orderButton(_("Ask for its state"), () => ["query", this.id, 0])];
         return isFull ? [moves, ...more()] : [moves];
     }
 
     switchControls(kind, isFull) {
         const channel = () => this.channel.value;
-        const made = [buttonGroup(this.orderButton(_("On"), () => orders.switchOrder(this.id, channel(), true)),
-                                  this.orderButton(_("Off"), () => orders.switchOrder(this.id, channel(), false)))];
+        const made = [buttonGroup(this.orderButton(_("On"), () => ["switch", this.id, channel(), "on"]),
+                                  this.orderButton(_("Off"), () => ["switch", this.id, channel(), "off"]))];
         if (kind === "dimmer")
-            made.push(this.orderSlider(_("Percent"), percent => orders.dimOrder(this.id, channel(), percent)));
-        const meter = (text, what) => this.orderButton(text, () => orders.meterOrder(this.id, channel(), what));
-        const more = () => [this.orderButton(_("Ask for its state"), () => orders.queryOrder(this.id, channel())),
+            made.push(this.orderSlider(_("Percent"), percent => ["dim", this.id, channel(), percent]));
+        const meter = (text, what) => this.orderButton(text, () => ["meter", this.id, channel(), what]);
+        const more = () => [this.orderButton(_("Ask for its state"), () => ["query", this.id, channel()]),
                             meter(_("Ask for its energy"), "energy"), meter(_("Ask for its power"), "power")];
         return isFull ? [...made, ...more()] : made;
     }

@@ -16,16 +16,14 @@ export class DeviceSection {
         this.page = page;
         this.dialog = new EditDialog(page);
         this.rows = new Rows(byId("device-packets"), (key, packet) => new PacketRow(packet, page), false);
+        this.readings = [readingTiles(byId("device-readings")), detailReadingChips(byId("device-details"))];
         byId("device-edit").addEventListener("click", () => this.dialog.open(this.id, this.device));
         this.leave();
     }
 
     leave() {
         Object.assign(this, { id: null, device: null, eep: null, controls: null });
-        const places = [byId("device-readings"), byId("device-details")];
-        places.forEach(place => place.replaceChildren());
-        this.readings = [readingTiles(places[0]), detailReadingChips(places[1])];
-        this.rows.clear();
+        [this.rows, ...this.readings].forEach(list => list.clear());
     }
 
     paint() {
@@ -55,7 +53,7 @@ export class DeviceSection {
         setText(byId("device-age"), format(_("last telegram: $0"), lastHeardText(device, now)));
         byId("device-age").classList.toggle("warn", this.page.isQuiet(device));
         setSignal(byId("device-signal"), device.dbm);
-        this.readings.forEach(readings => readings.fill(device));
+        this.readings.forEach(readings => readings.show(device));
         this.controls?.fill(device, now);
     }
 

@@ -106,7 +106,7 @@ class DeviceRow {
         if (this.eep !== device.eep)
             this.setProfile(device.eep);
         setText(this.link, words.labelText(device));
-        this.readings.fill(device);
+        this.readings.show(device);
         this.controls?.fill(device, now);
         setSignal(this.signal, device.dbm);
         setText(this.age, lastHeardText(device, now));

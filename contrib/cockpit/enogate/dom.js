@@ -129,7 +129,8 @@ export class Rows {
         }
         let place = this.body.firstChild;
         for (const [key, item, isGone] of entries) {
-            const row = this.row(key, item);
+            const row = this.rows.get(key) ?? this.make(key, item);
+            this.rows.set(key, row);
             if (row.element === place)
                 place = place.nextSibling;
             else
@@ -145,15 +146,6 @@ export class Rows {
             const present = items.get(key) ?? (find ? find(key) : item);
             return [key, present ?? item, present === undefined];
         });
-    }
-
-    row(key, item) {
-        let row = this.rows.get(key);
-        if (!row) {
-            row = this.make(key, item);
-            this.rows.set(key, row);
-        }
-        return row;
     }
 
     /** Removes all rows. */

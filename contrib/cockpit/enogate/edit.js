@@ -4,8 +4,8 @@ import { addressOf } from "./address.js";
 import { _ } from "./cockpit.js";
 import { button, byId, element, onEnter, Rows, setText } from "./dom.js";
 import { LabelField } from "./label.js";
-import { acceptedId, canHaveProfile, setProfiles } from "./learn.js";
-import * as orders from "./orders.js";
+import { acceptedId, canHaveProfile, changeDevice, setProfiles } from "./learn.js";
+import { reasonOf, replaceCommand } from "./orders.js";
 import * as words from "./words.js";
 
 const MAX_SENDERS = 6;
@@ -21,7 +21,7 @@ export class EditDialog {
         byId("edit-remove").addEventListener("click", () => this.showPart("warning"));
         byId("edit-replace").addEventListener("click", () => this.showPart("replacement"));
         byId("edit-sure").addEventListener("click", () =>
-            this.closeAfter(page.give(orders.remove(this.id)), addressOf("devices")));
+            this.closeAfter(page.give(["remove", this.id]), addressOf("devices")));
         byId("edit-swap").addEventListener("click", () => this.replace());
     }
 
@@ -56,17 +56,7 @@ export class EditDialog {
     save() {
         const text = this.field.label();
         if (text !== null && !byId("edit-save").disabled && !byId("edit-save").hidden)
-            this.closeAfter(this.change(this.profile.value, text));
-    }
-
-    /** Gives the orders for what somebody has changed. A profile that is not supported is no option of the list. */
-    async change(eep, label) {
-        if (eep && eep !== this.eep) {
-            await this.page.give(orders.add(this.id, eep));
-            this.eep = eep;
-        }
-        if (label !== this.label)
-            await this.page.give(orders.label(this.id, label));
+            this.closeAfter(changeDevice(this.page, this, this.profile.value, text));
     }
 
     /** Replaces the device, and opens the view of the new one. */
@@ -75,7 +65,7 @@ export class EditDialog {
         if (id === null || byId("edit-swap").disabled)
             return;
         const { page } = this;
-        this.closeAfter(page.runCommand(orders.replaceCommand(page.gateway, this.id, id)), addressOf("device", id));
+        this.closeAfter(page.runCommand(replaceCommand(page.gateway, this.id, id)), addressOf("device", id));
     }
 
     /** Closes the dialog once an order is carried out. Opens a view, if one is named and nobody has left this one. */
@@ -83,14 +73,13 @@ export class EditDialog {
         const { id } = this;
         this.enableButtons(false);
         setText(byId("edit-result"), "…");
-        try {
-            await given;
+        const why = await reasonOf(given);
+        setText(byId("edit-result"), why);
+        if (!why) {
             this.dialog.close();
             await this.page.refresh();
             if (address && this.page.part === id)
                 this.page.openAddress(address);
-        } catch (error) {
-            setText(byId("edit-result"), orders.failureText(error));
         }
         this.enableButtons(this.page.canOrderNow);
     }

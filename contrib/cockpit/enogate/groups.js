@@ -2,18 +2,18 @@
 
 import { _, format } from "./cockpit.js";
 import { acceptField, byId, setText } from "./dom.js";
-import * as orders from "./orders.js";
+import { wholeNumberIn } from "./orders.js";
 import * as words from "./words.js";
 
-/** The order of each button, made of the group, the percentage and the time. */
+/** The order of each button, made of the group, which is an offset from the base ID, the percentage and the time. */
 const ORDERS = new Map([
-    ["on", group => orders.centralOrder(group, true)], ["off", group => orders.centralOrder(group, false)],
-    ["level", orders.levelOrder], ["teach", orders.teachOrder],
+    ["on", group => ["central", group, "on"]], ["off", group => ["central", group, "off"]],
+    ["level", (group, percent, seconds) => ["level", group, percent, seconds]], ["teach", group => ["teach", group]],
 ]);
 
 /** The number in a field; null if it is out of its range, which the browser then shows. */
 function numberInField(field) {
-    const number = orders.wholeNumberIn(field.value, Number(field.max));
+    const number = wholeNumberIn(field.value, Number(field.max));
     acceptField(field, number === null ? format(_("Enter a whole number from 0 to $0."), field.max) : "");
     return number;
 }
@@ -28,7 +28,7 @@ export class GroupsSection {
 
     /** Gives the order that this function makes of the numbers that it needs. */
     async give(orderOf) {
-        const numbers = this.fields.slice(0, orderOf === orders.levelOrder ? 3 : 1).map(numberInField);
+        const numbers = this.fields.slice(0, orderOf.length).map(numberInField);
         if (numbers.includes(null))
             return;
         setText(byId("groups-result"), "…");

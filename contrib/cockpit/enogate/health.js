@@ -7,16 +7,13 @@ import { lastHeardTime } from "./model.js";
 import { baseFault, gatewayFault } from "./places.js";
 import * as words from "./words.js";
 
-// Below this signal in dBm, telegrams get lost. A better signal gains a bar at each of these.
-export const WEAK_SIGNAL = -85;
-const BAR_LIMITS = [WEAK_SIGNAL, -75, -65];
+// A signal gains a bar at each of these, in dBm. With one bar it is weak: telegrams get lost.
+const BAR_LIMITS = [-85, -75, -65];
 // More devices with the same problem become one line.
 const MAX_NAMED_DEVICES = 3;
 
 /** How many of four bars a signal has. */
 export const signalBars = dbm => dbm === null ? 0 : 1 + BAR_LIMITS.filter(least => dbm >= least).length;
-
-export const isWeak = ({ dbm }) => dbm !== null && dbm < WEAK_SIGNAL;
 
 /** Whether a device has sent nothing for this time, as far as the page can know. */
 export const isQuiet = (device, opened, now, minutes) => now - (lastHeardTime(device) ?? opened) > minutes * 60000;
@@ -29,7 +26,7 @@ export function devicesByState({ devices, opened }, sent, now, minutes) {
     return {
         all, silent,
         heard: all.filter(([id, device]) => lastHeardTime(device) !== null && !isSilent.has(id)),
-        weak: all.filter(([, device]) => isWeak(device)),
+        weak: all.filter(([, { dbm }]) => signalBars(dbm) === 1),
         misfit: all.filter(([, { misfit }]) => misfit),
         actuators: all.filter(([, { eep }]) => words.PROFILES.get(eep)?.abilities),
         unanswered: all.filter(([id, device]) => sent.has(id) && orderStateOf(sent.get(id), device, now) === "silent"),

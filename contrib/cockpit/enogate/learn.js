@@ -3,7 +3,7 @@
 import { _, format } from "./cockpit.js";
 import { acceptField, byId, onEnter, setOptions, setText, showText } from "./dom.js";
 import { LabelField } from "./label.js";
-import * as orders from "./orders.js";
+import { idIn, labelOrder, reasonOf } from "./orders.js";
 import * as words from "./words.js";
 
 /** Whether a sender can have this profile. A teach-in query (UTE) may ask for any kind. */
@@ -27,8 +27,21 @@ const UNHEARD = { rorg: "", eep: null };
 
 /** The ID in a field; null if there is none, and the browser then says so. */
 export function acceptedId(field) {
-    const id = orders.idIn(field.value);
+    const id = idIn(field.value);
     return acceptField(field, id ? "" : ID_RULE) ? id : null;
+}
+
+/**
+ * Gives the orders for a profile and a label that a device does not have yet. There is no profile if that of the device
+ * is not supported, and so no option of the list.
+ */
+export async function changeDevice(page, device, eep, label) {
+    if (eep && eep !== device.eep) {
+        await page.give(["add", device.id, eep]);
+        device.eep = eep;
+    }
+    if (label !== device.label)
+        await page.give(labelOrder(device.id, label));
 }
 
 export class LearnDialog {
@@ -45,7 +58,7 @@ export class LearnDialog {
     }
 
     get id() {
-        return this.heard ?? orders.idIn(this.idField.value);
+        return this.heard ?? idIn(this.idField.value);
     }
 
     /** Opens the dialog for a sender that was heard, or without its ID: then it is entered. */
@@ -94,17 +107,14 @@ export class LearnDialog {
         byId("learn-go").disabled = true;
         setText(byId("learn-result"), "…");
         this.selectedFor = id;
-        try {
-            await this.page.give(orders.add(id, eep));
-            if (label)
-                await this.page.give(orders.label(id, label));
+        const why = await reasonOf(changeDevice(this.page, { id, label: "" }, eep, label));
+        byId("learn-go").disabled = !why;
+        const done = _("Learned. Press the button of the device again to see its first reading.");
+        setText(byId("learn-result"), why || done);
+        if (!why) {
             this.learned = id;
             byId("learn-hint").hidden = !words.PROFILES.get(eep).abilities && this.sender.rorg !== "D4";
-            setText(byId("learn-result"), _("Learned. Press the button of the device again to see its first reading."));
             this.page.refresh();
-        } catch (error) {
-            setText(byId("learn-result"), orders.failureText(error));
-            byId("learn-go").disabled = false;
         }
     }
 

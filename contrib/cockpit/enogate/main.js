@@ -12,7 +12,7 @@ import { Feed } from "./feed.js";
 import { GroupsSection } from "./groups.js";
 import { devicesByState, isQuiet } from "./health.js";
 import { Model } from "./model.js";
-import { failureText, orderCommand } from "./orders.js";
+import { orderCommand, reasonOf } from "./orders.js";
 import { OverviewSection } from "./overview.js";
 import { PacketsSection } from "./packets.js";
 import { baseFault, gatewayFault, runIdOf } from "./places.js";
@@ -34,9 +34,6 @@ const [STORED_MINUTES, STORED_GATEWAY] = ["enogate-quiet-minutes", "enogate-gate
 const DEFAULT_SILENT_MINUTES = 24 * 60;
 // The tab of a view that has none of its own.
 const TAB_OF_VIEW = new Map([["device", "devices"], ["groups", "devices"]]);
-
-/** Why a command failed; empty if it did not. */
-const reasonOf = process => process.then(() => "", failureText);
 
 /** Whether a click on a link opens it in this page, and not in another tab or window. */
 const isPlainClick = event => !event.ctrlKey && !event.metaKey && !event.shiftKey;

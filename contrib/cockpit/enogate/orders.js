@@ -6,8 +6,8 @@ export const LONGEST_LABEL = 32;
 // The channel number that means all channels of an actuator.
 export const ALL_CHANNELS = 30;
 
-/** The command that gives an order. @param {string[]} order */
-export const orderCommand = (gateway, order) => ["enogatectl", "--json", gateway, "--", ...order];
+/** The command that gives an order. @param {Array<string|number>} order - its words */
+export const orderCommand = (gateway, order) => ["enogatectl", "--json", gateway, "--", ...order.map(String)];
 
 /** The command that prints the devices as the lines record them. It gives no order. */
 export const recordedCommand = gateway => ["enogatectl", "--json", gateway, "devices"];
@@ -25,28 +25,11 @@ export const windowCommand = (gateway, order, seconds) =>
 /** The command that writes a backup of a gateway. */
 export const backupCommand = gateway => ["enogatectl", gateway, "backup"];
 
-export const add = (id, eep) => ["add", id, eep];
-export const remove = id => ["remove", id];
-export const label = (id, text) => text === "" ? ["label", id] : ["label", id, text];
+/** The order that sets a label. The empty text removes it. */
+export const labelOrder = (id, text) => text === "" ? ["label", id] : ["label", id, text];
 
 /** Whether the gateway accepts a text as a label. The empty text removes it. */
 export const isLabel = text => /^(?:[!-~](?:[ -~]{0,30}[!-~])?)?$/.test(text);
-
-/** Orders for a channel of a switch or dimmer. */
-export const switchOrder = (id, channel, isOn) => ["switch", id, String(channel), isOn ? "on" : "off"];
-export const dimOrder = (id, channel, percent) => ["dim", id, String(channel), String(percent)];
-export const queryOrder = (id, channel) => ["query", id, String(channel)];
-/** Asks for a measurement: `energy` or `power`. */
-export const meterOrder = (id, channel, what) => ["meter", id, String(channel), what];
-
-/** Orders for a blind. It is open at 0 % and closed at 100 %. */
-export const blindOrder = (id, percent) => ["blind", id, String(percent)];
-export const stopOrder = id => ["stop", id];
-
-/** Orders to all actuators that have learned a group, which is an offset from the base ID. */
-export const centralOrder = (group, isOn) => ["central", String(group), isOn ? "on" : "off"];
-export const levelOrder = (group, percent, seconds) => ["level", String(group), String(percent), String(seconds)];
-export const teachOrder = group => ["teach", String(group)];
 
 /** The number in a field that an order accepts, from 0 to the greatest one; null if there is none. */
 export function wholeNumberIn(text, greatest) {
@@ -72,3 +55,6 @@ export function failureText(error) {
     const lines = String(error.message || error).trim().split("\n");
     return lines[lines.length - 1].replace(/^enogatectl: /, "");
 }
+
+/** Why a command failed; empty if it did not. */
+export const reasonOf = process => process.then(() => "", failureText);

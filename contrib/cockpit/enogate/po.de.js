@@ -33,6 +33,9 @@ cockpit.locale({
     "$0 to $1 since $2": [null, "$0 bis $1 seit $2"],
     "$0 value since $1": [null, "$0 Wert seit $1", "$0 Werte seit $1"],
     "$0 was last heard $1": [null, "$0 wurde zuletzt $1 empfangen"],
+    "$0 was learned, so the learn window is closed.": [
+        null, "$0 wurde eingelernt. Damit ist das Lernfenster geschlossen.",
+    ],
     "$0, reported $1": [null, "$0, gemeldet $1"],
     "(counted at $0)": [null, "(gezählt um $0)"],
     "(no label)": [null, "(ohne Bezeichnung)"],

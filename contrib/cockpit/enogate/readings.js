@@ -1,7 +1,7 @@
 // The readings of a device as elements: chips in a list, and tiles with plots in the view of a device.
 
 import { _, format, ngettext } from "./cockpit.js";
-import { element, setText } from "./dom.js";
+import { element, Rows, setText } from "./dom.js";
 import { signalBars } from "./health.js";
 import { Plot } from "./plot.js";
 import * as words from "./words.js";
@@ -27,7 +27,7 @@ class ReadingElement {
         this.range = isTile ? element("span", { className: "minor" }) : "";
     }
 
-    fill(eep, item) {
+    fill([eep, item]) {
         const { name, value, unit } = words.readingParts(eep, item);
         setText(this.name, name);
         setText(this.value, value);
@@ -51,35 +51,17 @@ class ReadingElement {
     }
 }
 
-/** The readings of a device in an element. */
-class ReadingList {
+/** The readings of a device in an element. Each one keeps its place. */
+class ReadingList extends Rows {
     constructor(place, isTile, choose) {
-        Object.assign(this, { place, isTile, choose, shown: new Map() });
+        super(place, () => new ReadingElement(isTile), false);
+        this.choose = choose;
     }
 
-    fill({ eep, readings }) {
-        const all = [...readings.values()];
-        const wanted = new Set(this.choose(eep, all));
-        for (const [key, { element: made }] of this.shown) {
-            if (!wanted.has(readings.get(key))) {
-                made.remove();
-                this.shown.delete(key);
-            }
-        }
-        for (const [key, item] of readings) {
-            if (wanted.has(item))
-                this.elementFor(key).fill(eep, item);
-        }
-    }
-
-    elementFor(key) {
-        let made = this.shown.get(key);
-        if (!made) {
-            made = new ReadingElement(this.isTile);
-            this.shown.set(key, made);
-            this.place.append(made.element);
-        }
-        return made;
+    show({ eep, readings }) {
+        const wanted = new Set(this.choose(eep, [...readings.values()]));
+        const keys = [...new Set([...this.rows.keys(), ...readings.keys()])];
+        this.fill(keys.filter(key => wanted.has(readings.get(key))).map(key => [key, [eep, readings.get(key)]]));
     }
 }
 

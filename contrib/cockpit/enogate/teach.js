@@ -37,15 +37,22 @@ export class LearnWindowCard {
         if (this.process)
             return;
         const process = this.page.runCommand(windowCommand(this.page.gateway, this.openingOrder(), WINDOW_SECONDS));
-        this.process = process;
+        Object.assign(this, { process, learned: "" });
         process.then(() => this.handleEnd(process, null), error => this.handleEnd(process, error));
         this.page.painter.paintNow();
     }
 
-    /** Takes a line. enogatectl asks for the status after each order, so a new line reports that the window is open. */
-    takeLine({ type, mode }, now) {
-        if (this.process && now !== null && type === "status" && mode !== "closed")
+    /**
+     * Takes a line. enogatectl asks for the status after each order, so a new line reports that the window is open. If
+     * none does after a device was learned, the window was for this device, and the gateway has closed it.
+     */
+    takeLine({ type, mode, result, id }, now) {
+        if (this.process && now !== null && type === "status" && mode !== "closed") {
             this.until ??= now + WINDOW_SECONDS * 1000;
+            this.learned = "";
+        }
+        if (this.until && type === "teach" && result === "accepted")
+            this.learned = id;
     }
 
     /** The command has ended. The error of a command for another gateway is not shown. */
@@ -73,6 +80,7 @@ export class LearnWindowCard {
 
     /** Forgets the gateway: the window that the page has opened there is closed. */
     clear() {
+        this.learned = "";
         this.process?.close();
         this.resetWindow();
     }
@@ -97,6 +105,8 @@ export class LearnWindowCard {
         const text = profile ? _("Press any button of the device ($0).")
             : _("Press the learn button of the device now.");
         setText(byId("teach-mode"), format(text, words.profileWithKind(profile)));
+        const done = _("$0 was learned, so the learn window is closed.");
+        showText(byId("teach-learned"), this.learned ? format(done, this.learned) : "");
         this.rows.fill(model.taught.map(item => [item.number, item]).reverse());
         byId("teach-results").hidden = !model.taught.length;
     }

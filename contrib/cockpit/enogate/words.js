@@ -98,14 +98,12 @@ export const stateText = ({ eep, readings }) => readingsText(eep, [...readings.v
 
 export const signalText = dbm => dbm === null ? "" : `${dbm} dBm`;
 
+const UNITS = [[86400, "d"], [3600, "h"], [60, "min"]];
+
 /** A time in the greatest unit that it fills. */
 export function durationText(seconds) {
-    const [minutes, hours, days] = [60, 3600, 86400].map(length => Math.floor(seconds / length));
-    if (days)
-        return `${days} d`;
-    if (hours)
-        return `${hours} h`;
-    return minutes ? `${minutes} min` : `${seconds} s`;
+    const [length, unit] = UNITS.find(([least]) => seconds >= least) ?? [1, "s"];
+    return `${Math.floor(seconds / length)} ${unit}`;
 }
 
 /** How long ago something was; null is before the page was opened. */
@@ -123,10 +121,7 @@ export const modeText = mode => mode.startsWith("as ") ? format(_("as $0"), mode
 
 /** The state of a service in words. */
 export function serviceText(states) {
-    if (!states)
-        return _("unknown");
-    const words = { active: _("running"), inactive: _("stopped"), failed: _("failed"), deactivating: _("stopping") };
-    if (states.ActiveState === "activating")
-        return states.SubState === "auto-restart" ? _("restarting") : _("starting");
-    return words[states.ActiveState] || _("unknown");
+    const words = { active: _("running"), inactive: _("stopped"), failed: _("failed"), deactivating: _("stopping"),
+                    activating: states?.SubState === "auto-restart" ? _("restarting") : _("starting") };
+    return words[states?.ActiveState] || _("unknown");
 }
