@@ -1,4 +1,5 @@
-"""Notices that files have changed: inotify, through the C library."""
+"""Notices that files have changed: inotify, through the C library. No call has a callback, so MemoryDenyWriteExecute of
+systemd permits them."""
 from __future__ import annotations
 
 import ctypes
