@@ -23,8 +23,8 @@ MAX_EVENTS = 1000
 class Entry:
     """A line, the position before it in the file, and the number of its message once it is published."""
     line: str
-    before: Position
-    number: int | None = None
+    start_position: Position
+    message_number: int | None = None
 
 
 class Outbox:
@@ -34,19 +34,19 @@ class Outbox:
         self.entries: deque[Entry] = deque()
         self.is_dropping = False
 
-    def add(self, line: str, before: Position) -> None:
+    def add(self, line: str, start_position: Position) -> None:
         if len(self.entries) == MAX_LINES:
             self.entries.popleft()
             if not self.is_dropping:
                 logging.warning("broker unavailable or too slow: %s lines kept, dropping the oldest", MAX_LINES)
             self.is_dropping = True
-        self.entries.append(Entry(line, before))
+        self.entries.append(Entry(line, start_position))
 
     def start_session(self) -> None:
         """A new connection knows nothing of messages that were published on another one."""
         self.is_dropping = False
         for entry in self.entries:
-            entry.number = None
+            entry.message_number = None
 
     def publish(self, publish: Callable[[str], int], has_room: Callable[[], bool]) -> None:
         """Publishes the lines that are not published yet, while there is room for another message; `publish` returns
@@ -54,17 +54,18 @@ class Outbox:
         for entry in self.entries:
             if not has_room():
                 return
-            if entry.number is None:
-                entry.number = publish(entry.line)
+            if entry.message_number is None:
+                entry.message_number = publish(entry.line)
 
-    def drop_acknowledged(self, unacknowledged: Container[int]) -> None:
+    def drop_acknowledged(self, unacknowledged_numbers: Container[int]) -> None:
         """Drops the lines at the front that the broker has acknowledged."""
-        while self.entries and self.entries[0].number is not None and self.entries[0].number not in unacknowledged:
+        while (self.entries and self.entries[0].message_number is not None
+               and self.entries[0].message_number not in unacknowledged_numbers):
             self.entries.popleft()
 
-    def acknowledged_position(self, end: Position) -> Position:
-        """The position up to which all lines are acknowledged; `end` is that up to which they were read."""
-        return self.entries[0].before if self.entries else end
+    def acknowledged_position(self, end_position: Position) -> Position:
+        """The position up to which all lines are acknowledged; `end_position` is that up to which they were read."""
+        return self.entries[0].start_position if self.entries else end_position
 
 
 class Backlog:

@@ -37,11 +37,12 @@ def check_version(connection: sqlite3.Connection) -> None:
         raise ForeignFile(f"version {version} of the state, expected {VERSION}")
 
 
-def position_of(inode: object, offset: object, last: object) -> Position:
+def position_of(inode: object, offset: object, last_bytes: object) -> Position:
     """How far the lines were read."""
-    if not (isinstance(inode, int) and isinstance(offset, int) and isinstance(last, bytes) and 0 <= offset <= MAX_SIZE):
+    if not (isinstance(inode, int) and isinstance(offset, int) and isinstance(last_bytes, bytes)
+            and 0 <= offset <= MAX_SIZE):
         raise ForeignFile("place of an unknown form")
-    return Position(inode, offset, last)
+    return Position(inode, offset, last_bytes)
 
 
 def last_seen(path: str) -> tuple[Position, dict[str, datetime]] | None:
@@ -52,8 +53,8 @@ def last_seen(path: str) -> tuple[Position, dict[str, datetime]] | None:
             check_version(connection)
             row = connection.execute("SELECT inode, offset, last FROM place").fetchone()
             devices = connection.execute("SELECT id, told FROM device").fetchall()
-        times = {device: time for device, text in devices if (time := time_in(text))}
-        return (position_of(*row), times) if row else None
+        times_by_device = {device: time for device, text in devices if (time := time_in(text))}
+        return (position_of(*row), times_by_device) if row else None
     except (sqlite3.Error, ForeignFile):
         return None
 
