@@ -17,9 +17,9 @@ from .queries import Queries
 FIRST_PAUSE, MAX_PAUSE = 5.0, 600.0
 # How often the gateway is asked for its status, and how long it may take to answer at most, in seconds.
 STATUS_EVERY, ANSWER_WITHIN = 60.0, 15.0
-# If the radio module has shown nothing for so long, it is asked, in seconds: an order `base` is answered with 74 bytes
-# of lines, less than one megabyte a day. If the gateway writes no line for so long after an order, or the module does
-# not respond for so long, it does not work: with the time before, that is noticed within 15 seconds.
+# If the radio module has shown nothing for so long, it is asked, in seconds: an order `base` is answered with 73 bytes
+# of lines and a packet line of 53, 1.6 megabytes a day. If the gateway writes no line for so long after an order, or
+# the module does not respond for so long, it does not work: with the time before, that is noticed within 15 seconds.
 PROBE_AFTER, SILENT_FOR = 7.0, 7.0
 # So long may a gateway be silent that starts. The unit starts it two seconds after its end.
 START_WITHIN = 10.0
