@@ -5,6 +5,7 @@ import contextlib
 import json
 import pathlib
 import sqlite3
+from collections.abc import Mapping
 from datetime import datetime
 
 from enogate_lines.follow import Position
@@ -49,18 +50,35 @@ def last_seen(path: str) -> tuple[Position, dict[str, datetime]] | None:
     device. None if the bridge has read none, or if the file cannot be read."""
     try:
         with contextlib.closing(sqlite3.connect(uri_of(path, "mode=ro"), uri=True, timeout=LOCK_WAIT)) as connection:
-            check_version(connection)
+            devices = last_readings(connection)
             row = connection.execute("SELECT inode, offset, last FROM place").fetchone()
-            devices = connection.execute("SELECT id, told FROM device").fetchall()
-        times = {device: time for device, text in devices if (time := time_in(text))}
+        times = {device: time for device, reported in devices.items() if (time := time_in(reported))}
         return (position_of(*row), times) if row else None
     except (sqlite3.Error, ForeignFile):
         return None
 
 
-def time_in(text: str) -> datetime | None:
-    """The time in the readings of a device, as the bridge stores them; None if it has none."""
+def last_readings(connection: sqlite3.Connection) -> dict[str, dict[str, str]]:
+    """The last readings of each device, by their subtopics, or sqlite3.Error or ForeignFile."""
+    check_version(connection)
+    return {device: texts_in(text) for device, text in connection.execute("SELECT id, told FROM device")}
+
+
+def texts_in(text: str) -> dict[str, str]:
+    """The texts in a JSON object, by their names; none if it is something else."""
     try:
-        return datetime.fromisoformat(json.loads(text)[LAST_SEEN_SUBTOPIC])
-    except (ValueError, TypeError, KeyError):
+        found = json.loads(text)
+    except (ValueError, TypeError, RecursionError):
+        return {}
+    members = found.items() if isinstance(found, dict) else ()
+    return {name: value for name, value in members if isinstance(value, str)}
+
+
+def time_in(reported: Mapping[str, str]) -> datetime | None:
+    """The time of the last telegram in the readings of a device; None if they have none. Each time that the bridge
+    stores has a time zone."""
+    try:
+        time = datetime.fromisoformat(reported[LAST_SEEN_SUBTOPIC])
+    except (KeyError, ValueError):
         return None
+    return time if time.tzinfo else None
