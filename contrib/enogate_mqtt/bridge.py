@@ -16,6 +16,7 @@ from . import discovery
 from .connection import ECHO_WITHIN, Broker, Connection, ConnectionLost, ReceivedMessage
 from .desk import Desk
 from .devices import Devices, time_text
+from .health import HealthReport
 from .log import RateLimitedLog
 from .orders import DEVICE_PATTERN, InvalidMessage, orders_of
 from .outbox import MAX_UNDER_WAY, Backlog, Outbox
@@ -65,6 +66,7 @@ class Bridge:
         self.desk, self.requests, self.store, self.clock, self.wall = desk, requests, store, clock, wall
         self.wait = wait
         self.outbox, self.backlog = Outbox(), Backlog()
+        self.health = HealthReport(devices, requests, clock, wall)
         self.rate_limited_log = RateLimitedLog(clock)
         self.connection: Connection | None = None
         # what the broker retains comes on a connection of its own: if it is too much for the broker, it drops some of
@@ -314,6 +316,7 @@ class Bridge:
             self.publish(self.devices.handle_line(content, None if is_late else self.plausible_time()))
             if not is_earlier:
                 self.requests.handle_line(content)
+                self.health.handle_line(content)
         if self.devices.lists > lists:
             self.requests.list.note_answer()
         if self.reconciler:
@@ -397,6 +400,8 @@ class Bridge:
             now[self.topics.learn] = "OFF" if self.requests.status.mode == "closed" else "ON"
             if self.topics.counters not in self.reported or self.clock() >= self.counted_at + COUNTERS_EVERY:
                 now[self.topics.counters] = json.dumps(self.requests.status.counters, separators=(",", ":"))
+        if health := self.health.take_due_text(self.topics.health in self.reported):
+            now[self.topics.health] = health
         new = {topic: text for topic, text in now.items() if self.reported.get(topic) != text}
         if self.topics.counters in new:
             self.counted_at = self.clock()

@@ -52,6 +52,11 @@ class Topics:
         return f"{self.root}/counters"
 
     @property
+    def health(self) -> str:
+        """The state of the gateway and its devices, retained, as a JSON object."""
+        return f"{self.root}/health"
+
+    @property
     def learn(self) -> str:
         """`ON` or `OFF`, retained: whether the learn window is open."""
         return f"{self.root}/learn"
@@ -59,7 +64,7 @@ class Topics:
     @property
     def report_topics(self) -> list[str]:
         """The topics for what is known about the gateway itself."""
-        return [self.gateway, self.module, self.counters, self.learn]
+        return [self.gateway, self.module, self.counters, self.learn, self.health]
 
     @property
     def watched_topics(self) -> list[str]:

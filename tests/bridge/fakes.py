@@ -23,7 +23,7 @@ OK = {"type": "ok"}
 # How long a test may take, in seconds; the slowest one takes some ten on a busy machine.
 LONGEST_TEST = 120
 # Some topics of the gateway: whoever removes all of its retained messages removes these.
-WATCHED = [*(f"enogate/hall/{name}" for name in ("status", "gateway", "module", "counters", "learn")),
+WATCHED = [*(f"enogate/hall/{name}" for name in ("status", "gateway", "module", "counters", "learn", "health")),
            *(f"homeassistant/{place}/config" for place in (
                "binary_sensor/enogate_hall/status", "sensor/enogate_hall/readings", "switch/enogate_hall/learn"))]
 
