@@ -19,7 +19,7 @@ from .devices import Devices, time_text
 from .health import HealthReport
 from .log import RateLimitedLog
 from .orders import DEVICE_PATTERN, InvalidMessage, orders_of
-from .outbox import MAX_UNDER_WAY, Backlog, Outbox
+from .outbox import MAX_UNDER_WAY, Backlog, Entry, Outbox
 from .reconcile import Part, Reconciler
 from .requests import ListRequest, Probe, Requests
 from .state import LAST_SEEN_SUBTOPIC
@@ -151,7 +151,7 @@ class Bridge:
                 self.broker.report_refused(self.topics.status)
             self.publish_gateway_reports()
             self.publish_waiting()
-            self.outbox.publish(lambda line: self.send(Message(self.topics.lines, line, False)), self.has_room)
+            self.outbox.publish(self.publish_line, self.has_room)
             self.note_acknowledged(self.connection)
         if self.clock() >= self.saved_at + SAVE_EVERY:
             self.save()
@@ -307,13 +307,17 @@ class Bridge:
         assert self.connection is not None
         return self.connection.publish(message)
 
+    def publish_line(self, entry: Entry) -> int:
+        """Publishes a line, and returns the number of the message."""
+        return self.send(Message(self.topics.lines, entry.line, False, entry.properties(self.clock())))
+
     def handle_lines(self, are_kept: bool, is_late: bool = False, is_earlier: bool = False) -> None:
         """Handles the lines that have arrived. When they are late, the time of their arrival is not known."""
-        lists, known = self.devices.lists, set(self.devices.known)
+        lists, known, now = self.devices.lists, set(self.devices.known), self.plausible_time()
         for line, position, content in decoded_lines(self.follower.read(), self.devices, self.rate_limited_log.warning):
             if are_kept:
-                self.outbox.add(line, position)
-            self.publish(self.devices.handle_line(content, None if is_late else self.plausible_time()))
+                self.outbox.add(line, position, self.clock(), now)
+            self.publish(self.devices.handle_line(content, None if is_late else now))
             if not is_earlier:
                 self.requests.handle_line(content)
                 self.health.handle_line(content)

@@ -17,14 +17,26 @@ MAX_LINES = 10000
 MAX_UNDER_WAY = 500
 # So many events wait; after that the oldest are dropped.
 MAX_EVENTS = 1000
+# A line that waits here for longer is late, in seconds.
+LATE_AFTER = 10.0
 
 
 @dataclass
 class Entry:
-    """A line, the position before it in the file, and the number of its message once it is published."""
+    """A line, the position before it in the file, when it was read (by the clock of the bridge, and in seconds since
+    1970, if that is known), and the number of its message once it is published. A line that was read before there was
+    this connection is late."""
     line: str
     before: Position
+    read: float = 0.0
+    time: float | None = None
     number: int | None = None
+    is_late: bool = False
+
+    def properties(self, now: float) -> tuple[tuple[str, str], ...]:
+        """The user properties of its message at this time, by the clock of the bridge."""
+        time = (("time", str(int(self.time))),) if self.time is not None else ()
+        return (*time, ("late", "1")) if self.is_late or now > self.read + LATE_AFTER else time
 
 
 class Outbox:
@@ -34,28 +46,28 @@ class Outbox:
         self.entries: deque[Entry] = deque()
         self.is_dropping = False
 
-    def add(self, line: str, before: Position) -> None:
+    def add(self, line: str, before: Position, read: float = 0.0, time: float | None = None) -> None:
         if len(self.entries) == MAX_LINES:
             self.entries.popleft()
             if not self.is_dropping:
                 logging.warning("broker unavailable or too slow: %s lines kept, dropping the oldest", MAX_LINES)
             self.is_dropping = True
-        self.entries.append(Entry(line, before))
+        self.entries.append(Entry(line, before, read, time))
 
     def start_session(self) -> None:
         """A new connection knows nothing of messages that were published on another one."""
         self.is_dropping = False
         for entry in self.entries:
-            entry.number = None
+            entry.number, entry.is_late = None, True
 
-    def publish(self, publish: Callable[[str], int], has_room: Callable[[], bool]) -> None:
+    def publish(self, publish: Callable[[Entry], int], has_room: Callable[[], bool]) -> None:
         """Publishes the lines that are not published yet, while there is room for another message; `publish` returns
         the number of the message."""
         for entry in self.entries:
             if not has_room():
                 return
             if entry.number is None:
-                entry.number = publish(entry.line)
+                entry.number = publish(entry)
 
     def drop_acknowledged(self, unacknowledged: Container[int]) -> None:
         """Drops the lines at the front that the broker has acknowledged."""

@@ -6,10 +6,12 @@ from dataclasses import dataclass
 
 @dataclass(frozen=True)
 class Message:
-    """A message to publish. A retained message without a payload deletes what the broker retains."""
+    """A message to publish. A retained message without a payload deletes what the broker retains. With MQTT 5, it has
+    these user properties: names and texts."""
     topic: str
     payload: str
     retained: bool
+    properties: tuple[tuple[str, str], ...] = ()
 
 
 @dataclass(frozen=True)

@@ -52,6 +52,8 @@ class FakeConnection:
         self.unacknowledged: set[int] = set()
         self.unanswered: set[int] = set()
         self.published: list[tuple[str, str, bool]] = []
+        # the user properties of the messages that have some
+        self.properties: list[tuple[str, dict[str, str]]] = []
         self.requests: list[list[str]] = []
         self.acknowledges_messages = self.answers_requests = self.passes_messages_on = True
         self.number = 0
@@ -63,6 +65,8 @@ class FakeConnection:
 
     def publish(self, message):
         self.published.append((message.topic, message.payload, message.retained))
+        if message.properties:
+            self.properties.append((message.payload, dict(message.properties)))
         if message.retained:
             self.memory[message.topic] = message.payload
             if not message.payload:

@@ -911,6 +911,77 @@ class WholeBridge(LogTest):
         self.assertNotIn(HALL + "01800ABC/last_seen", self.site.broker.memory)
         self.assertIsNone(self.site.bridge.requests.gateway.is_online)
 
+    def times_of_lines(self):
+        """The user properties of the lines that were published on this connection, by their type."""
+        return [(json.loads(line)["type"], words) for line, words in self.site.broker.connection.properties]
+
+    def test_times_of_lines(self):
+        """Each line has the time when it was read. Those that were read before the connection are late."""
+        self.start()
+        self.site.write_lines(OK)
+        self.site.run_turns()
+        self.assertEqual(self.times_of_lines(), [("ok", {"time": "1800000000"})])
+        self.assertEqual([topic for topic, _, _ in self.site.broker.connection.published if topic == HALL + "lines"],
+                         [HALL + "lines"])
+        self.site.broker.lose()
+        self.site.wall.now += 5
+        self.site.write_lines(status())
+        self.site.run_turns()
+        self.site.wall.now += 5
+        self.site.write_lines(reading("01800ABC"))
+        self.site.broker.accept_connection()
+        self.site.run_turns(1)
+        self.site.write_lines(OK)
+        self.site.run_turns()
+        self.assertEqual(self.times_of_lines(), [
+            ("status", {"time": "1800000005", "late": "1"}), ("reading", {"time": "1800000010", "late": "1"}),
+            ("ok", {"time": "1800000010"})])
+
+    def test_lines_of_before_the_start_are_late(self):
+        self.start()
+        self.site.stop()
+        self.site.broker.lose()
+        self.site.write_lines(OK)
+        self.site.wall.now += 100
+        self.site.start()
+        self.site.broker.accept_connection()
+        self.site.run_turns()
+        self.assertEqual(self.times_of_lines(), [("ok", {"time": "1800000100", "late": "1"})])
+
+    def test_lines_that_are_published_again_are_late(self):
+        self.start()
+        self.site.broker.connection.acknowledges_messages = False
+        self.site.write_lines(OK)
+        self.site.run_turns()
+        self.site.broker.accept_connection()
+        self.site.run_turns()
+        self.assertEqual(self.times_of_lines(), [("ok", {"time": "1800000000", "late": "1"})])
+
+    def test_lines_that_wait_are_late(self):
+        """After ten seconds."""
+        connection = self.congest()
+        self.site.run_turns(1, 11)
+        connection.acknowledges_messages = True
+        self.site.run_turns(1)
+        self.site.write_lines(OK)
+        self.site.run_turns()
+        words = [words for _, words in self.times_of_lines()]
+        self.assertEqual(({len(one) for one in words[-100:-1]}, words[-1]), ({2}, {"time": "1800000000"}))
+
+    def test_lines_while_the_clock_is_wrong_have_no_time(self):
+        self.start()
+        self.last_seen()
+        self.site.run_turns(2, 3)
+        self.site.stop()
+        self.site.wall.now -= 1000
+        self.site.start()
+        self.site.broker.accept_connection()
+        self.site.run_turns(1)
+        self.site.write_lines(OK)
+        self.site.run_turns()
+        self.assertIn(HALL + "lines", [topic for topic, _ in self.site.published()])
+        self.assertEqual(self.times_of_lines(), [])
+
     def test_an_order_before_the_gateway_has_answered(self):
         self.start()
         self.site.send(HALL + "orders", b"list")

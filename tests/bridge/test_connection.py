@@ -43,8 +43,8 @@ class FakePahoClient:
             return (0, self.mids)
         return call
 
-    def publish(self, topic, payload, qos, retain):
-        self.calls.append(("publish", (topic, payload), {"qos": qos, "retain": retain}))
+    def publish(self, topic, payload, **options):
+        self.calls.append(("publish", (topic, payload), options))
         self.mids += 1
         return types.SimpleNamespace(mid=self.mids)
 
@@ -249,6 +249,17 @@ class PahoConnection(LogTest):
         self.assertEqual(found.unacknowledged, {two})
         self.client.on_publish(self.client, None, two)
         self.assertEqual(found.unacknowledged, set())
+
+    def test_user_properties(self):
+        """Only with MQTT 5, and only if the message has some."""
+        message = Message("a", "x", False, (("time", "5"), ("late", "1")))
+        self.connect().publish(message)
+        options = self.client.called("publish")[0][1]
+        found = options.pop("properties")
+        self.assertEqual((found.packet, found.UserProperty, options),
+                         (3, [("time", "5"), ("late", "1")], {"qos": 1, "retain": False}))
+        self.connect(version=4).publish(message)
+        self.assertEqual(self.client.called("publish"), [(("a", "x"), {"qos": 1, "retain": False})])
 
     def test_requests(self):
         found = self.connect()
