@@ -34,6 +34,7 @@ class TimesOfLines(GatewayTest):
     """Each line is published with the time when it was read, and those of before the connection are late."""
 
     def test_times_and_state(self):
+        self.order("add 01800A02 A5-02-05")
         self.start_bridge()
         path, listener = self.work / "properties", self.enterContext(Program(self.work / "properties.journal"))
         listener.run(self.broker.client_command("sub", "-V", "5", "-t", f"{TOPIC_ROOT}/lines", "-F", "%P %p"), path)
