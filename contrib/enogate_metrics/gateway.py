@@ -126,7 +126,8 @@ def observed_devices(paths: Paths, system: System, table: Table) -> tuple[list[O
 
 
 def saved_readings(path: str) -> dict[str, dict[str, str]] | None:
-    """The last readings of each device that the bridge with this state file has saved, or None if it cannot be read."""
+    """The last readings of each device that the bridge with this state file has saved, or None if it cannot be read. If
+    the bridge begins a new log between the copies of the file and of its log, they may be older, or none."""
     with tempfile.TemporaryDirectory(dir=MEMORY_FOLDER if os.access(MEMORY_FOLDER, os.W_OK) else None) as folder:
         copy = f"{folder}/copy"
         try:

@@ -76,7 +76,8 @@ class HealthMessages(LogTest):
         for _ in range(4):
             self.site.write_lines(status())
             self.site.run_turns(1, 5)
-        self.assertEqual([(one["gateway"], one["stick"], one["base"]) for one in self.messages()], [(True, False, None)])
+        self.assertEqual([(one["gateway"], one["stick"], one["base"]) for one in self.messages()],
+                         [(True, False, None)])
 
     def test_once_a_minute(self):
         """And only if it has changed, however often it could change."""
@@ -112,10 +113,10 @@ class HealthMessages(LogTest):
         self.assertEqual(self.last()["silent"], NOBODY)
 
     def test_low_batteries(self):
-        self.start(("01800AB1", "A5-07-01"), ("01800AB2", "A5-07-01"), ("01800AB3", "A5-07-01"))
+        self.start(("01800AB1", "A5-06-01"), ("01800AB2", "A5-06-01"), ("01800AB3", "A5-06-01"))
         volts = [{"den": 10, "name": "SVC", "num": 24, "unit": "V"}]
-        self.answer(reading("01800AB1", "A5-07-01", volts), reading("01800AB2", "A5-07-01", [{**volts[0], "num": 25}]),
-                    reading("01800AB3", "A5-07-01", [{"name": "SVC", "out_of_range": 255}]))
+        self.answer(reading("01800AB1", "A5-06-01", volts), reading("01800AB2", "A5-06-01", [{**volts[0], "num": 25}]),
+                    reading("01800AB3", "A5-06-01", [{"name": "SVC", "out_of_range": 255}]))
         self.assertEqual(self.last()["low_battery"], {"count": 1, "ids": ["01800AB1"]})
 
     def test_many_devices(self):

@@ -1,8 +1,10 @@
 """Which devices are silent, have a weak signal, or have a low battery."""
+import dataclasses
 import math
 import pathlib
 import re
 import unittest
+from unittest import mock
 
 from enogate_lines.entities import MISSED_INTERVALS, Table
 from enogate_lines.health import LOW_VOLTAGE, SUPPLY_VOLTAGE, WEAK_SIGNAL, ObservedDevice, health_of, longest_silence
@@ -39,6 +41,10 @@ class HealthOfDevices(unittest.TestCase):
             cyclic = [int(row.more["cyclic"]) for row in rows if "cyclic" in row.more]
             self.assertEqual(longest_silence(eep, TABLE), MISSED_INTERVALS * max(cyclic, default=math.inf), eep)
         self.assertEqual(longest_silence("A5-FF-FF", TABLE), math.inf)
+        row = TABLE.rows_of_profile("D5-00-01")["CO", ""]
+        rows = {seconds: dataclasses.replace(row, more={"cyclic": seconds}) for seconds in ("60", "90", "30")}
+        with mock.patch.object(TABLE, "rows_of_profile", return_value=rows):
+            self.assertEqual(longest_silence("D5-00-01", TABLE), 270)
 
     def test_limits(self):
         health = self.health(device("1", dbm="-85", SVC="2.5"), device("2", dbm="-86", SVC="2.49"), device("3"),
