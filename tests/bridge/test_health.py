@@ -71,6 +71,14 @@ class HealthMessages(LogTest):
             "base": None, "gateway": False, "stick": False, "version": VERSION, "last_telegram": None,
             "last_telegram_seconds": None, "silent": NOBODY, "weak": NOBODY, "low_battery": NOBODY}])
 
+    def test_a_stick_at_a_gateway_that_does_not_answer(self):
+        """The stick does not count, even if a telegram comes."""
+        self.start(("01800ABC", "A5-02-05"))
+        for _ in range(20):
+            self.site.write_lines(reading("01800ABC"))
+            self.site.run_turns(1, 5)
+        self.assertEqual((self.last()["gateway"], self.last()["stick"]), (False, False))
+
     def test_a_stick_that_does_not_answer(self):
         self.start()
         for _ in range(4):
