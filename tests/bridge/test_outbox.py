@@ -78,8 +78,8 @@ class OutboxLines(LogTest):
         self.assertEqual([entry.properties(110.0) for entry in self.box.entries], [time[:1], ()])
         self.assertEqual([entry.properties(110.1) for entry in self.box.entries], [time, time[1:]])
         self.box.start_session()
-        self.box.add("c", END, 100.0, 1.0)
-        self.assertEqual([entry.properties(100.0) for entry in self.box.entries], [time, time[1:], (("time", "1"),)])
+        self.box.add("c", END, 100.0, 0.0)
+        self.assertEqual([entry.properties(100.0) for entry in self.box.entries], [time, time[1:], (("time", "0"),)])
 
     def test_the_oldest_are_dropped(self):
         self.assertEqual(outbox.MAX_LINES, 10000)
