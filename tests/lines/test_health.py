@@ -57,18 +57,10 @@ class HealthOfDevices(unittest.TestCase):
         self.assertEqual(int(re.search(r"BAR_LIMITS = \[(-\d+),", script)[1]), WEAK_SIGNAL)
 
     def test_the_guide(self):
-        """It has the limits, and those of the silence by profile."""
+        """It has the limits, and the profiles with a supply voltage."""
         page = " ".join((ROOT / "docs/guide/health.md").read_text("utf-8").split())
         self.assertIn(f"with less than {WEAK_SIGNAL} dBm", page)
         self.assertIn(f"its last reading `{SUPPLY_VOLTAGE}`, the supply voltage, is below {LOW_VOLTAGE} V", page)
-        sentence = re.search(r"\| is silent \|.*?\|", page)[0]
-        for row in TABLE.rows:
-            name = row.profiles if row.profiles == "D5-00-01" else row.profiles[:5]
-            minutes = longest_silence(row.profiles.replace("?", "1"), TABLE) / 60
-            if math.isfinite(minutes):
-                self.assertRegex(sentence, f"{minutes:.0f} minutes for [^0]*(?:`[^`]*`[^0]*)*`{name}`", row.profiles)
-            else:
-                self.assertNotIn(f"`{name}`", sentence)
         reporting = {row.profiles[:5] for row in TABLE.rows if row.reading == SUPPLY_VOLTAGE}
         self.assertEqual(set(re.findall("`(A5-..)`", re.search(r"\| has a low battery \|.*", page)[0].split("||")[0])),
                          reporting)
