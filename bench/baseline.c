@@ -1,10 +1,10 @@
-/* What `enogate replay --base ID [--explain]` does for the workloads of `bench/workloads.py`, in plain C: a baseline for
- * its speed, without any proof. The devices are in memory, and each line of output is one write(). `bench/instructions`
- * and `bench/replay` compare the output of the two.
+/* What `enogate replay --base ID [--explain]` does for the workloads of `bench/workloads.py`, in plain C: a baseline
+ * for its speed, without any proof. The devices are in memory, and each line of output is one write().
+ * `bench/instructions` and `bench/replay` compare the output of the two.
  *
- * The only orders are `add` of four kinds of devices, and `status`: the learn window is never open, nothing is sent, and
- * no device is deleted. The table of devices is made for IDs as they come in practice; whoever chooses them can make it
- * slow.
+ * The only orders are `add` of four kinds of devices, and `status`: the learn window is never open, nothing is sent,
+ * and no device is deleted. The table of devices is made for IDs as they come in practice; whoever chooses them can
+ * make it slow.
  */
 #define _POSIX_C_SOURCE 200809L
 #include <errno.h>
@@ -17,50 +17,50 @@
 #include <unistd.h>
 
 enum {
-    READ = 256,       /* bytes of a read */
-    LINE = 200,       /* bytes of the longest line */
-    PIECE = 99,       /* bytes of the longest piece */
-    HELD = 262144,    /* room for bytes of the serial line: those held, fewer than 65,797, and pieces */
-    DEVICES = 1000,   /* devices at most */
-    SLOTS = 4096,     /* places of the hash table, a power of two */
+    READ_SIZE = 256,      /* bytes of a read */
+    MAX_LINE = 200,       /* bytes of the longest line */
+    MAX_CHUNK = 99,       /* bytes of the longest chunk */
+    BUFFER_SIZE = 262144, /* for bytes of the serial line: those held, fewer than 65,797, and chunks */
+    MAX_DEVICES = 1000,   /* devices at most */
+    SLOT_COUNT = 4096,    /* slots of the hash table, a power of two */
     SLOT_BITS = 12,
-    PERIOD = 127,     /* x has this order modulo the polynomial of the check */
+    CRC_PERIOD = 127,     /* x has this order modulo the polynomial of the check */
 };
 
 /* The RORGs of the telegrams that are read. */
 enum { RPS = 0xF6, ONE_BYTE = 0xD5, FOUR_BYTE = 0xA5 };
 
-static const uint32_t ALL = 0xFFFFFFFF; /* the ID of all: of no device, and so the mark of a free slot */
+static const uint32_t BROADCAST_ID = 0xFFFFFFFF; /* the ID of all: of no device, and so the mark of a free slot */
 
 /* The line of output. The longest is that of a telegram with five readings, after the line that explains it. */
 
-static char text[1000];
-static size_t length;
+static char output[1000];
+static size_t output_length;
 
-#define TEXT(literal) put(literal, sizeof literal - 1)
+#define TEXT(literal) put_bytes(literal, sizeof literal - 1)
 
-static void put(const char *bytes, size_t count) {
-    memcpy(text + length, bytes, count);
-    length += count;
+static void put_bytes(const char *bytes, size_t count) {
+    memcpy(output + output_length, bytes, count);
+    output_length += count;
 }
 
 static void put_word(const char *word) {
-    put(word, strlen(word));
+    put_bytes(word, strlen(word));
 }
 
 static inline void put_number(uint64_t number) {
     char digits[20];
-    size_t at = sizeof digits;
+    size_t first_digit = sizeof digits;
     do
-        digits[--at] = (char)('0' + number % 10);
+        digits[--first_digit] = (char)('0' + number % 10);
     while (number /= 10);
-    put(digits + at, sizeof digits - at);
+    put_bytes(digits + first_digit, sizeof digits - first_digit);
 }
 
 static void put_byte(uint8_t byte) {
     static const char DIGITS[] = "0123456789ABCDEF";
-    text[length++] = DIGITS[byte >> 4];
-    text[length++] = DIGITS[byte & 15];
+    output[output_length++] = DIGITS[byte >> 4];
+    output[output_length++] = DIGITS[byte & 15];
 }
 
 static void put_id(uint32_t id) {
@@ -82,16 +82,16 @@ static void stop(const char *cause) {
 }
 
 /* Writes the line that begins there, after one that is not complete yet. */
-static void write_from(size_t begin) {
+static void write_from(size_t line_start) {
     TEXT("\n");
-    for (size_t done = begin; done < length;) {
-        ssize_t count = write(STDOUT_FILENO, text + done, length - done);
+    for (size_t written_size = line_start; written_size < output_length;) {
+        ssize_t count = write(STDOUT_FILENO, output + written_size, output_length - written_size);
         if (count > 0)
-            done += (size_t)count;
+            written_size += (size_t)count;
         else if (count == 0 || errno != EINTR)
             stop("write");
     }
-    length = begin;
+    output_length = line_start;
 }
 
 static void write_line(void) {
@@ -101,35 +101,36 @@ static void write_line(void) {
 /* The readings. Each ends with a comma, and whoever closes the list puts the bracket over the last one. */
 
 /* A value of num/den. */
-static void fraction(const char *name, const char *unit, int64_t num, uint32_t den) {
-    uint32_t size = (uint32_t)(num < 0 ? -num : num), one = den, other = size;
-    while (other != 0) {
-        uint32_t rest = one % other;
-        one = other;
-        other = rest;
+static void put_value_reading(const char *name, const char *unit, int64_t numerator, uint32_t denominator) {
+    uint32_t magnitude = (uint32_t)(numerator < 0 ? -numerator : numerator);
+    uint32_t divisor = denominator, remainder = magnitude;
+    while (remainder != 0) {
+        uint32_t next_remainder = divisor % remainder;
+        divisor = remainder;
+        remainder = next_remainder;
     }
     TEXT("{\"den\":");
-    put_number(den / one);
+    put_number(denominator / divisor);
     TEXT(",\"name\":\"");
     put_word(name);
     TEXT("\",\"num\":");
-    if (num < 0)
+    if (numerator < 0)
         TEXT("-");
-    put_number(size / one);
+    put_number(magnitude / divisor);
     TEXT(",\"unit\":\"");
     put_word(unit);
     TEXT("\"},");
 }
 
-static void word(const char *name, const char *is) {
+static void put_word_reading(const char *name, const char *value_word) {
     TEXT("{\"name\":\"");
     put_word(name);
     TEXT("\",\"word\":\"");
-    put_word(is);
+    put_word(value_word);
     TEXT("\"},");
 }
 
-static void out_of_range(const char *name, uint32_t number) {
+static void put_out_of_range_reading(const char *name, uint32_t number) {
     TEXT("{\"name\":\"");
     put_word(name);
     TEXT("\",\"out_of_range\":");
@@ -137,65 +138,66 @@ static void out_of_range(const char *name, uint32_t number) {
     TEXT("},");
 }
 
-static uint32_t number(const uint8_t *bytes) {
+static uint32_t big_endian_number(const uint8_t *bytes) {
     return (uint32_t)bytes[0] << 24 | (uint32_t)bytes[1] << 16 | (uint32_t)bytes[2] << 8 | bytes[3];
 }
 
 /* A number from 0 to `most` that stands for `low` to `high`. */
-static void scaled(const char *name, const char *unit, int value, int most, int low, int high) {
-    if (value <= most)
-        fraction(name, unit, low * most + value * (high - low), (uint32_t)most);
+static void put_scaled_reading(const char *name, const char *unit, int raw, int last_raw, int first_value,
+                               int last_value) {
+    if (raw <= last_raw)
+        put_value_reading(name, unit, first_value * last_raw + raw * (last_value - first_value), (uint32_t)last_raw);
     else
-        out_of_range(name, (uint32_t)value);
+        put_out_of_range_reading(name, (uint32_t)raw);
 }
 
 /* The readings of a telegram by a profile. */
 
-static void contact(uint32_t eep, const uint8_t *payload, uint8_t status) {
+static void read_contact(uint32_t eep, const uint8_t *payload, uint8_t status) {
     (void)eep, (void)status;
-    word("CO", payload[0] & 1 ? "closed" : "open");
+    put_word_reading("CO", payload[0] & 1 ? "closed" : "open");
 }
 
-static void action(const char *name, unsigned number) {
+static void put_rocker_action(const char *name, unsigned action_number) {
     static const char *const BUTTONS[] = {"AI", "A0", "BI", "B0"};
-    if (number < sizeof BUTTONS / sizeof *BUTTONS)
-        word(name, BUTTONS[number]);
+    if (action_number < sizeof BUTTONS / sizeof *BUTTONS)
+        put_word_reading(name, BUTTONS[action_number]);
     else
-        out_of_range(name, number);
+        put_out_of_range_reading(name, action_number);
 }
 
-static void rocker(uint32_t eep, const uint8_t *payload, uint8_t status) {
-    unsigned first = payload[0] >> 5;
-    const char *bow = payload[0] & 0x10 ? "pressed" : "released";
+static void read_rocker(uint32_t eep, const uint8_t *payload, uint8_t status) {
+    unsigned first_action = payload[0] >> 5;
+    const char *bow_word = payload[0] & 0x10 ? "pressed" : "released";
     (void)eep;
     if (status & 0x10) {
-        action("R1", first);
-        word("EB", bow);
+        put_rocker_action("R1", first_action);
+        put_word_reading("EB", bow_word);
         if (payload[0] & 1)
-            action("R2", payload[0] >> 1 & 7);
+            put_rocker_action("R2", payload[0] >> 1 & 7);
     } else {
-        if (first == 0 || first == 3)
-            word("buttons", first ? "three_or_four" : "none");
+        if (first_action == 0 || first_action == 3)
+            put_word_reading("buttons", first_action ? "three_or_four" : "none");
         else
-            out_of_range("buttons", first);
-        word("EB", bow);
+            put_out_of_range_reading("buttons", first_action);
+        put_word_reading("EB", bow_word);
     }
 }
 
-static void temperature(uint32_t eep, const uint8_t *payload, uint8_t status) {
-    int type = eep & 255, low = 10 * type - (type < 0x10 ? 50 : 220), width = type < 0x10 ? 40 : 80;
+static void read_temperature(uint32_t eep, const uint8_t *payload, uint8_t status) {
+    int eep_type = eep & 255, least = 10 * eep_type - (eep_type < 0x10 ? 50 : 220), range = eep_type < 0x10 ? 40 : 80;
     (void)status;
-    scaled("TMP", "C", 255 - payload[2], 255, low, low + width);
+    put_scaled_reading("TMP", "C", 255 - payload[2], 255, least, least + range);
 }
 
-static void occupancy(uint32_t eep, const uint8_t *payload, uint8_t status) {
-    int type = eep & 255;
+static void read_occupancy(uint32_t eep, const uint8_t *payload, uint8_t status) {
+    int eep_type = eep & 255;
     (void)status;
-    fraction("SVC", "V", 51 * payload[0], 2550);
-    fraction("ILL", "lx", 510 * type * payload[1], 255);
-    fraction("TMP", "C", type < 3 ? 51 * payload[2] : 80 * payload[2] - 30 * 255, 255);
-    word("PIRS", payload[3] & 2 ? "off" : "on");
-    word("OCC", payload[3] & 1 ? "released" : "pressed");
+    put_value_reading("SVC", "V", 51 * payload[0], 2550);
+    put_value_reading("ILL", "lx", 510 * eep_type * payload[1], 255);
+    put_value_reading("TMP", "C", eep_type < 3 ? 51 * payload[2] : 80 * payload[2] - 30 * 255, 255);
+    put_word_reading("PIRS", payload[3] & 2 ? "off" : "on");
+    put_word_reading("OCC", payload[3] & 1 ? "released" : "pressed");
 }
 
 /* The profiles that are read, by their first and last number. */
@@ -206,16 +208,16 @@ struct profile {
 };
 
 static const struct profile PROFILES[] = {
-    {0xD50001, 0xD50001, contact},
-    {0xF60201, 0xF60202, rocker},
-    {0xA50201, 0xA5020B, temperature},
-    {0xA50801, 0xA50803, occupancy},
+    {0xD50001, 0xD50001, read_contact},
+    {0xF60201, 0xF60202, read_rocker},
+    {0xA50201, 0xA5020B, read_temperature},
+    {0xA50801, 0xA50803, read_occupancy},
 };
 
 static const struct profile *profile_of(uint32_t eep) {
-    for (size_t k = 0; k < sizeof PROFILES / sizeof *PROFILES; k++)
-        if (PROFILES[k].first <= eep && eep <= PROFILES[k].last)
-            return &PROFILES[k];
+    for (size_t index = 0; index < sizeof PROFILES / sizeof *PROFILES; index++)
+        if (PROFILES[index].first <= eep && eep <= PROFILES[index].last)
+            return &PROFILES[index];
     return NULL;
 }
 
@@ -226,25 +228,25 @@ struct device {
     const struct profile *profile;
 };
 
-static struct device devices[SLOTS];
-static size_t learned;
+static struct device devices[SLOT_COUNT];
+static size_t learned_count;
 
-static size_t home(uint32_t id) {
+static size_t first_slot(uint32_t id) {
     return id * 2654435761u >> (32 - SLOT_BITS);
 }
 
 /* The device with this ID, or the free slot where it goes. */
-static struct device *find(uint32_t id) {
-    size_t at = home(id);
-    while (devices[at].id != id && devices[at].id != ALL)
-        at = (at + 1) % SLOTS;
-    return &devices[at];
+static struct device *find_slot(uint32_t id) {
+    size_t slot = first_slot(id);
+    while (devices[slot].id != id && devices[slot].id != BROADCAST_ID)
+        slot = (slot + 1) % SLOT_COUNT;
+    return &devices[slot];
 }
 
 /* Learns a device, or returns that 1,000 others are learned. */
 static bool learn(uint32_t id, uint32_t eep) {
-    struct device *device = find(id);
-    if (device->id == ALL && learned++ == DEVICES)
+    struct device *device = find_slot(id);
+    if (device->id == BROADCAST_ID && learned_count++ == MAX_DEVICES)
         return false;
     device->id = id;
     device->eep = eep;
@@ -254,10 +256,10 @@ static bool learn(uint32_t id, uint32_t eep) {
 
 /* The packets of the radio module. Each is a reading, or is ignored. */
 
-enum { RADIO = 1 };
+enum { RADIO_ERP1 = 1 };
 
-static uint64_t readings, ignored;
-static uint32_t base;
+static uint64_t reading_count, ignored_count;
+static uint32_t base_id;
 static bool explains;
 
 static void put_dbm(int dbm) {
@@ -272,11 +274,11 @@ static void put_dbm(int dbm) {
 
 /* Explains a telegram that is read. */
 static void explain(const struct device *device, const uint8_t *data, size_t size, uint32_t destination, int dbm) {
-    size_t begin = length;
+    size_t line_start = output_length;
     TEXT("{\"dbm\":");
     put_dbm(dbm);
     TEXT(",\"dest\":");
-    if (destination == ALL) {
+    if (destination == BROADCAST_ID) {
         TEXT("null");
     } else {
         TEXT("\"");
@@ -288,18 +290,19 @@ static void explain(const struct device *device, const uint8_t *data, size_t siz
     TEXT("\",\"id\":\"");
     put_id(device->id);
     TEXT("\",\"maker\":null,\"payload\":\"");
-    for (size_t k = 1; k < size - 5; k++)
-        put_byte(data[k]);
+    for (size_t index = 1; index < size - 5; index++)
+        put_byte(data[index]);
     TEXT("\",\"rorg\":\"");
     put_byte(data[0]);
     TEXT("\",\"status\":\"");
     put_byte(data[size - 1]);
     TEXT("\",\"type\":\"packet\",\"why\":\"read\"}");
-    write_from(begin);
+    write_from(line_start);
 }
 
 /* Reports the readings of a telegram of a learned device. */
-static void reading(const struct device *device, const uint8_t *data, size_t size, uint32_t destination, int dbm) {
+static void report_reading(const struct device *device, const uint8_t *data, size_t size, uint32_t destination,
+                           int dbm) {
     TEXT("{\"dbm\":");
     put_dbm(dbm);
     TEXT(",\"eep\":\"");
@@ -308,7 +311,7 @@ static void reading(const struct device *device, const uint8_t *data, size_t siz
     put_id(device->id);
     TEXT("\",\"readings\":[");
     device->profile->read(device->eep, data + 1, data[size - 1]);
-    length--;
+    output_length--;
     TEXT("],\"type\":\"reading\"}");
     if (explains)
         explain(device, data, size, destination, dbm);
@@ -333,143 +336,145 @@ static bool is_data(const uint8_t *data, size_t size) {
 
 /* Reports a telegram, if it is read. The first seven bytes of the optional data, if there are that many, are the number
  * of subtelegrams, the destination, the signal strength and the security. */
-static bool telegram(const uint8_t *data, size_t size, const uint8_t *optional, size_t more) {
+static bool handle_telegram(const uint8_t *data, size_t size, const uint8_t *optional, size_t optional_size) {
     if (!is_data(data, size))
         return false;
-    int dbm = more >= 7 ? optional[5] : -1;
-    uint32_t destination = more >= 7 ? number(optional + 1) : ALL, sender = number(data + size - 5);
-    if (sender == ALL || (destination != ALL && (destination & ~(uint32_t)127) != base))
+    int dbm = optional_size >= 7 ? optional[5] : -1;
+    uint32_t destination = optional_size >= 7 ? big_endian_number(optional + 1) : BROADCAST_ID;
+    uint32_t sender = big_endian_number(data + size - 5);
+    if (sender == BROADCAST_ID || (destination != BROADCAST_ID && (destination & ~(uint32_t)127) != base_id))
         return false;
-    const struct device *device = find(sender);
-    if (device->id == ALL || data[0] != device->eep >> 16)
+    const struct device *device = find_slot(sender);
+    if (device->id == BROADCAST_ID || data[0] != device->eep >> 16)
         return false;
-    reading(device, data, size, destination, dbm);
+    report_reading(device, data, size, destination, dbm);
     return true;
 }
 
-static void handle(uint8_t type, const uint8_t *data, size_t size, size_t more) {
-    if (type == RADIO && telegram(data, size, data + size, more))
-        readings++;
+static void handle_packet(uint8_t packet_type, const uint8_t *data, size_t size, size_t optional_size) {
+    if (packet_type == RADIO_ERP1 && handle_telegram(data, size, data + size, optional_size))
+        reading_count++;
     else
-        ignored++;
+        ignored_count++;
 }
 
-/* The serial line. The bytes from `start` to `end` are held, and searched again once there are some up to `wanted`.
+/* The serial line. The bytes from `buffer_start` to `buffer_end` are held, and searched again once there are some up to
+ * `needed_end`.
  *
- * A check is CRC-8 with x^8 + x^2 + x + 1. `checks` has those over the bytes from some place on, up to each of the
- * places up to `known`. The check from a to b is the one up to b less x^(8 (b - a)) times the one up to a, so that a
- * byte goes through the table once for all the false headers before it. `powers` has these products. */
+ * A check is CRC-8 with x^8 + x^2 + x + 1. `crcs` has those over the bytes from some place on, up to each of the
+ * places up to `crc_end`. The check from a to b is the one up to b less x^(8 (b - a)) times the one up to a, so that a
+ * byte goes through the table once for all the false headers before it. `crc_shifts` has these products. */
 
-static uint8_t step[256]; /* the check of one byte */
-static uint8_t held[HELD], checks[HELD];
-static size_t start, end, wanted, known;
-static uint8_t powers[PERIOD][256];
+static uint8_t crc_table[256]; /* the check of one byte */
+static uint8_t buffer[BUFFER_SIZE], crcs[BUFFER_SIZE];
+static size_t buffer_start, buffer_end, needed_end, crc_end;
+static uint8_t crc_shifts[CRC_PERIOD][256];
 
 static void make_tables(void) {
     for (int byte = 0; byte < 256; byte++) {
-        int check = byte;
+        int crc = byte;
         for (int bit = 0; bit < 8; bit++)
-            check = check & 0x80 ? check << 1 ^ 0x107 : check << 1;
-        step[byte] = (uint8_t)check;
-        powers[0][byte] = (uint8_t)byte;
+            crc = crc & 0x80 ? crc << 1 ^ 0x107 : crc << 1;
+        crc_table[byte] = (uint8_t)crc;
+        crc_shifts[0][byte] = (uint8_t)byte;
     }
-    for (int count = 1; count < PERIOD; count++)
+    for (int power = 1; power < CRC_PERIOD; power++)
         for (int byte = 0; byte < 256; byte++)
-            powers[count][byte] = step[powers[count - 1][byte]];
+            crc_shifts[power][byte] = crc_table[crc_shifts[power - 1][byte]];
 }
 
-static uint8_t header_check(const uint8_t *header) {
-    return step[step[step[step[header[0]] ^ header[1]] ^ header[2]] ^ header[3]];
+static uint8_t header_crc(const uint8_t *header) {
+    return crc_table[crc_table[crc_table[crc_table[header[0]] ^ header[1]] ^ header[2]] ^ header[3]];
 }
 
 /* The check over the bytes from `from` to `to`. */
-static uint8_t check(size_t from, size_t to) {
-    if (known < from) {
-        known = from;
-        checks[from] = 0;
+static uint8_t crc_between(size_t first, size_t past_last) {
+    if (crc_end < first) {
+        crc_end = first;
+        crcs[first] = 0;
     }
-    for (; known < to; known++)
-        checks[known + 1] = step[checks[known] ^ held[known]];
-    return checks[to] ^ powers[(to - from) % PERIOD][checks[from]];
+    for (; crc_end < past_last; crc_end++)
+        crcs[crc_end + 1] = crc_table[crcs[crc_end] ^ buffer[crc_end]];
+    return crcs[past_last] ^ crc_shifts[(past_last - first) % CRC_PERIOD][crcs[first]];
 }
 
 /* Handles the packets that are there. */
-static void search(void) {
-    while (end >= wanted) {
-        const uint8_t *sync = memchr(held + start, 0x55, end - start);
+static void handle_packets(void) {
+    while (buffer_end >= needed_end) {
+        const uint8_t *sync = memchr(buffer + buffer_start, 0x55, buffer_end - buffer_start);
         if (sync == NULL) {
-            start = wanted = end;
+            buffer_start = needed_end = buffer_end;
             return;
         }
-        start = (size_t)(sync - held);
-        wanted = start + 6;
-        if (end < wanted)
+        buffer_start = (size_t)(sync - buffer);
+        needed_end = buffer_start + 6;
+        if (buffer_end < needed_end)
             return;
-        size_t size = (size_t)sync[1] << 8 | sync[2], more = sync[3];
-        if (header_check(sync + 1) != sync[5] || size + more == 0) {
-            wanted = ++start;
+        size_t data_size = (size_t)sync[1] << 8 | sync[2], optional_size = sync[3];
+        if (header_crc(sync + 1) != sync[5] || data_size + optional_size == 0) {
+            needed_end = ++buffer_start;
             continue;
         }
-        size_t last = start + 6 + size + more;
-        wanted = last + 1;
-        if (end < wanted)
+        size_t crc_place = buffer_start + 6 + data_size + optional_size;
+        needed_end = crc_place + 1;
+        if (buffer_end < needed_end)
             return;
-        if (check(start + 6, last) != held[last]) {
-            wanted = ++start;
+        if (crc_between(buffer_start + 6, crc_place) != buffer[crc_place]) {
+            needed_end = ++buffer_start;
             continue;
         }
-        handle(sync[4], sync + 6, size, more);
-        start = wanted;
+        handle_packet(sync[4], sync + 6, data_size, optional_size);
+        buffer_start = needed_end;
     }
 }
 
 /* Memory for a chunk after the held bytes. */
-static uint8_t *room(void) {
-    if (end + PIECE >= HELD) {
-        memmove(held, held + start, end - start);
-        if (known > start)
-            memmove(checks, checks + start, known - start + 1);
+static uint8_t *make_room(void) {
+    if (buffer_end + MAX_CHUNK >= BUFFER_SIZE) {
+        memmove(buffer, buffer + buffer_start, buffer_end - buffer_start);
+        if (crc_end > buffer_start)
+            memmove(crcs, crcs + buffer_start, crc_end - buffer_start + 1);
         else
-            checks[0] = 0;
-        known = known > start ? known - start : 0;
-        wanted -= start;
-        end -= start;
-        start = 0;
+            crcs[0] = 0;
+        crc_end = crc_end > buffer_start ? crc_end - buffer_start : 0;
+        needed_end -= buffer_start;
+        buffer_end -= buffer_start;
+        buffer_start = 0;
     }
-    return held + end;
+    return buffer + buffer_end;
 }
 
 /* The orders. */
 
-static int8_t digit[256]; /* the value of a hexadecimal digit, or -1 */
+static int8_t digit_values[256]; /* the value of a hexadecimal digit, or -1 */
 
 static void make_digits(void) {
-    memset(digit, -1, sizeof digit);
+    memset(digit_values, -1, sizeof digit_values);
     for (int value = 0; value < 10; value++)
-        digit['0' + value] = (int8_t)value;
+        digit_values['0' + value] = (int8_t)value;
     for (int value = 10; value < 16; value++)
-        digit['A' + value - 10] = digit['a' + value - 10] = (int8_t)value;
+        digit_values['A' + value - 10] = digit_values['a' + value - 10] = (int8_t)value;
 }
 
 /* Reads this many hexadecimal digits after those that were read before. */
-static bool digits(const char *from, int count, uint32_t *value) {
-    for (int k = 0; k < count; k++) {
-        int one = digit[(uint8_t)from[k]];
-        if (one < 0)
+static bool read_digits(const char *output, int count, uint32_t *value) {
+    for (int index = 0; index < count; index++) {
+        int digit_value = digit_values[(uint8_t)output[index]];
+        if (digit_value < 0)
             return false;
-        *value = *value << 4 | (uint32_t)one;
+        *value = *value << 4 | (uint32_t)digit_value;
     }
     return true;
 }
 
 /* Reads a profile, as D5-00-01. */
-static bool eep_digits(const char *from, uint32_t *eep) {
-    return digits(from, 2, eep) && from[2] == '-' && digits(from + 3, 2, eep) && from[5] == '-'
-        && digits(from + 6, 2, eep);
+static bool read_eep(const char *output, uint32_t *eep) {
+    return read_digits(output, 2, eep) && output[2] == '-' && read_digits(output + 3, 2, eep) && output[5] == '-'
+        && read_digits(output + 6, 2, eep);
 }
 
-static void add(uint32_t id, uint32_t eep) {
-    if (id == ALL || profile_of(eep) == NULL || !learn(id, eep))
+static void handle_add(uint32_t id, uint32_t eep) {
+    if (id == BROADCAST_ID || profile_of(eep) == NULL || !learn(id, eep))
         stop("a device that no workload has");
     TEXT("{\"eep\":\"");
     put_eep(eep);
@@ -479,54 +484,54 @@ static void add(uint32_t id, uint32_t eep) {
     write_line();
 }
 
-static void status(void) {
+static void write_status(void) {
     TEXT("{\"ignored\":");
-    put_number(ignored);
+    put_number(ignored_count);
     TEXT(",\"mode\":\"closed\",\"readings\":");
-    put_number(readings);
+    put_number(reading_count);
     TEXT(",\"refused\":0,\"responses\":0,\"teach\":0,\"type\":\"status\"}");
     write_line();
 }
 
-static void order(const char *line, size_t size) {
+static void handle_order(const char *line, size_t size) {
     uint32_t id = 0, eep = 0;
-    if (size == sizeof "add 01800ABC D5-00-01" - 1 && memcmp(line, "add ", 4) == 0 && digits(line + 4, 8, &id)
-        && line[12] == ' ' && eep_digits(line + 13, &eep))
-        add(id, eep);
+    if (size == sizeof "add 01800ABC D5-00-01" - 1 && memcmp(line, "add ", 4) == 0 && read_digits(line + 4, 8, &id)
+        && line[12] == ' ' && read_eep(line + 13, &eep))
+        handle_add(id, eep);
     else if (size == sizeof "status" - 1 && memcmp(line, "status", size) == 0)
-        status();
+        write_status();
     else
         stop("an order that no workload has");
 }
 
 /* Appends the chunk that a line spells to the held bytes. Returns false if it spells none. */
-static bool piece(const char *line, size_t size) {
+static bool append_chunk(const char *line, size_t size) {
     if (size < 2 || size % 2 != 0 || line[0] != 'S' || line[1] != ' ')
         return false;
-    uint8_t *to = room();
-    for (size_t k = 2; k < size; k += 2) {
-        int high = digit[(uint8_t)line[k]], low = digit[(uint8_t)line[k + 1]];
+    uint8_t *write_place = make_room();
+    for (size_t index = 2; index < size; index += 2) {
+        int high = digit_values[(uint8_t)line[index]], low = digit_values[(uint8_t)line[index + 1]];
         if ((high | low) < 0)
             return false;
-        *to++ = (uint8_t)(high << 4 | low);
+        *write_place++ = (uint8_t)(high << 4 | low);
     }
-    end = (size_t)(to - held);
-    search();
+    buffer_end = (size_t)(write_place - buffer);
+    handle_packets();
     return true;
 }
 
-static void take_line(const char *line, size_t size) {
-    if (size > LINE)
+static void handle_line(const char *line, size_t size) {
+    if (size > MAX_LINE)
         stop("a line that no workload has");
-    else if (!piece(line, size))
-        order(line, size);
+    else if (!append_chunk(line, size))
+        handle_order(line, size);
 }
 
 /* The lines. Of a line that is too long only the first bytes are kept, one more than it may have and its CR. */
 static void replay(void) {
-    static char chunk[READ], line[LINE + 2];
-    size_t size = 0;
-    bool open = false;
+    static char chunk[READ_SIZE], line[MAX_LINE + 2];
+    size_t line_size = 0;
+    bool is_unended = false;
     for (;;) {
         ssize_t count = read(STDIN_FILENO, chunk, sizeof chunk);
         if (count < 0 && errno == EINTR)
@@ -535,41 +540,42 @@ static void replay(void) {
             stop("read");
         if (count == 0)
             break;
-        const char *from = chunk, *to = chunk + count;
-        while (from < to) {
-            const char *stop_at = memchr(from, '\n', (size_t)(to - from));
-            size_t part = (size_t)((stop_at ? stop_at : to) - from), keep = sizeof line - size;
-            if (keep > part)
-                keep = part;
-            memcpy(line + size, from, keep);
-            size += keep;
-            open = stop_at == NULL;
-            if (open)
+        const char *rest_start = chunk, *chunk_end = chunk + count;
+        while (rest_start < chunk_end) {
+            const char *line_end = memchr(rest_start, '\n', (size_t)(chunk_end - rest_start));
+            size_t part_size = (size_t)((line_end ? line_end : chunk_end) - rest_start);
+            size_t kept_size = sizeof line - line_size;
+            if (kept_size > part_size)
+                kept_size = part_size;
+            memcpy(line + line_size, rest_start, kept_size);
+            line_size += kept_size;
+            is_unended = line_end == NULL;
+            if (is_unended)
                 break;
-            take_line(line, size - (size > 0 && line[size - 1] == '\r'));
-            size = 0;
-            from = stop_at + 1;
+            handle_line(line, line_size - (line_size > 0 && line[line_size - 1] == '\r'));
+            line_size = 0;
+            rest_start = line_end + 1;
         }
     }
-    if (open)
-        take_line(line, size);
+    if (is_unended)
+        handle_line(line, line_size);
 }
 
-int main(int count, char **arguments) {
-    explains = count == 5 && strcmp(arguments[4], "--explain") == 0;
-    if (count != 4 + explains || strcmp(arguments[1], "replay") != 0 || strcmp(arguments[2], "--base") != 0) {
+int main(int argument_count, char **arguments) {
+    explains = argument_count == 5 && strcmp(arguments[4], "--explain") == 0;
+    if (argument_count != 4 + explains || strcmp(arguments[1], "replay") != 0 || strcmp(arguments[2], "--base") != 0) {
         fputs("usage: baseline replay --base ID [--explain]\n", stderr);
         return 2;
     }
     make_tables();
     make_digits();
-    if (strlen(arguments[3]) != 8 || !digits(arguments[3], 8, &base) || base < 0xFF800000 || base > 0xFFFFFF80
-        || base % 128 != 0) {
+    if (strlen(arguments[3]) != 8 || !read_digits(arguments[3], 8, &base_id) || base_id < 0xFF800000
+        || base_id > 0xFFFFFF80 || base_id % 128 != 0) {
         fputs("enogate: bad base\n", stderr);
         return 2;
     }
     signal(SIGPIPE, SIG_IGN);
-    for (size_t at = 0; at < SLOTS; at++)
-        devices[at].id = ALL;
+    for (size_t slot = 0; slot < SLOT_COUNT; slot++)
+        devices[slot].id = BROADCAST_ID;
     replay();
 }

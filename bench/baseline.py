@@ -10,10 +10,10 @@ SOURCE = pathlib.Path(__file__).resolve().with_name("baseline.c")
 
 def find_compiler():
     """The C compiler: gcc if it is installed, since the counts of `bench/instructions` are for gcc, otherwise cc."""
-    found = shutil.which("gcc") or shutil.which("cc")
-    if not found:
+    compiler = shutil.which("gcc") or shutil.which("cc")
+    if not compiler:
         sys.exit("neither gcc nor cc is installed")
-    return found
+    return compiler
 
 
 def build(folder):
@@ -27,9 +27,9 @@ def require_same_output(outputs, text, name):
     """Returns the output of both programs, this one and the other, for this text. If the two outputs differ, keeps them
     and exits with an error."""
     if outputs[0] != outputs[1]:
-        kept = pathlib.Path(tempfile.mkdtemp())
-        (kept / "script").write_bytes(text)
+        kept_folder = pathlib.Path(tempfile.mkdtemp())
+        (kept_folder / "script").write_bytes(text)
         for program, output in zip(["baseline", "program"], outputs):
-            (kept / program).write_bytes(output)
-        sys.exit(f"{name}: the outputs differ, see {kept}")
+            (kept_folder / program).write_bytes(output)
+        sys.exit(f"{name}: the outputs differ, see {kept_folder}")
     return outputs[0]

@@ -26,8 +26,8 @@ SHOWN_LINES = 5
 # A day of an idle gateway.
 TURNS_OF_A_DAY = "864000"
 # The devices that each gateway has learned.
-CONTACT, ACTUATOR = (f"{SENDERS[0] + number:08X}" for number in range(2))
-LEARN_ORDERS = (f"add {CONTACT} D5-00-01", f"add {ACTUATOR} D2-01-12")
+CONTACT_ID, ACTUATOR_ID = (f"{SENDERS[0] + number:08X}" for number in range(2))
+LEARN_ORDERS = (f"add {CONTACT_ID} D5-00-01", f"add {ACTUATOR_ID} D2-01-12")
 # The end of the answer to the order `status`.
 STATUS_MARK = b'"type":"status"'
 
@@ -48,9 +48,9 @@ def raise_priority():
     return "All processes have real-time priority 1, as with `chrt -f 1`."
 
 
-def print_row(widths, first, *others):
+def print_row(widths, first_cell, *other_cells):
     """Prints a row of a table. All cells but the first one are numbers."""
-    cells = [f"{first:<{widths[0]}}", *(f"{cell:>{width}}" for cell, width in zip(others, widths[1:]))]
+    cells = [f"{first_cell:<{widths[0]}}", *(f"{cell:>{width}}" for cell, width in zip(other_cells, widths[1:]))]
     print("|", " | ".join(cells), "|", flush=True)
 
 
@@ -66,20 +66,20 @@ class Tail:
     def __init__(self, path):
         self.file = open(path, "rb", buffering=0)
         self.file.seek(0, os.SEEK_END)
-        self.rest = b""
+        self.buffer = b""
 
     def has_appended(self, text):
         """Whether this was appended after the place at which a text was found last."""
-        before, found, after = (self.rest + self.file.read()).partition(text)
+        bytes_before, match, bytes_after = (self.buffer + self.file.read()).partition(text)
         # a part of the text may have come
-        self.rest = after if found else before[-len(text):]
-        return bool(found)
+        self.buffer = bytes_after if match else bytes_before[-len(text):]
+        return bool(match)
 
     def wait_for(self, text):
         """Waits until this is appended, and returns the time."""
-        end = time.monotonic() + TIMEOUT
+        deadline = time.monotonic() + TIMEOUT
         while not self.has_appended(text):
-            if time.monotonic() > end:
+            if time.monotonic() > deadline:
                 sys.exit(f"{self.file.name}: no {text!r} within {TIMEOUT:.0f} s")
             time.sleep(LOOK_PAUSE)
         return time.monotonic()
@@ -96,12 +96,12 @@ class Chain(contextlib.ExitStack):
         self.stick = self.enter_context(Stick())
         self.desk, self.lines = self.work / "run/enogate/hall/desk", self.work / "log/enogate/hall.lines"
 
-    def __exit__(self, kind, *rest):
+    def __exit__(self, exception_type, *exception_details):
         """Ends the programs. After a fault it first prints the last lines of the gateway, and of each journal."""
-        if kind:
+        if exception_type:
             for path in (self.lines, *self.work.glob("*journal")):
                 print(f"{path.name}:", *lines_of(path)[-SHOWN_LINES:], sep="\n    ", file=sys.stderr)
-        return super().__exit__(kind, *rest)
+        return super().__exit__(exception_type, *exception_details)
 
     def start_program(self, program, *options):
         """Starts the program itself, with the paths that the unit has."""
@@ -141,7 +141,8 @@ class Chain(contextlib.ExitStack):
         self.broker.start()
         self.bridge = self.enter_context(Bridge(self.work, self.broker))
         self.bridge.start()
-        status = wait_for(lambda: self.broker.retained().get("enogate/hall/status"), lambda seen: seen == "online")
+        status = wait_for(lambda: self.broker.retained().get("enogate/hall/status"), lambda payload: payload
+                          == "online")
         if status != "online":
             sys.exit("the bridge is not online")
 

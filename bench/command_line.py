@@ -13,11 +13,11 @@ class Parser(argparse.ArgumentParser):
         return self.text
 
 
-def number_up_to(most):
+def number_up_to(greatest):
     """The type of an argument that is a number from 1 to this one."""
-    def parsed(word):
-        if not 1 <= int(word) <= most:
+    def parsed_number(word):
+        if not 1 <= int(word) <= greatest:
             raise ValueError(word)
         return int(word)
 
-    return parsed
+    return parsed_number

@@ -14,7 +14,7 @@ from oracle.esp3 import packet, serial_script_lines, telegram_packet
 
 PROGRAM = ROOT / "crates/enogate/out/enogate"  # what `make build` makes
 
-SENDERS = [0x01800000 + 0x111 * k for k in range(200)]
+SENDERS = [0x01800000 + 0x111 * number for number in range(200)]
 CONTACT_TELEGRAMS = [telegram_packet(0xD5, b"\x09", sender) for sender in SENDERS]
 # For each kind of device (contact, rocker, temperature sensor): its profile, and the RORG, the payload and the status
 # of its telegrams.

@@ -6,19 +6,19 @@ import socket
 import stat
 
 from .building import Building
-from .devices import BUTTONS, ONE_BYTE, RPS, Device, Refused
+from .devices import BUTTONS, ONE_BYTE, RPS, Device, RefusedCommand
 
 SOCKET_NAME = "control"
-FORMS = ("press ID [BUTTON]", "open ID", "close ID", "send ID", "learn ID", "dead ID", "alive ID", "noise",
-         "unplug STICK", "plug STICK")
-OK = "ok"
+COMMAND_FORMS = ("press ID [BUTTON]", "open ID", "close ID", "send ID", "learn ID", "dead ID", "alive ID", "noise",
+                 "unplug STICK", "plug STICK")
+OK_ANSWER = "ok"
 NOISE_SIZE, MAX_SIZE, CLIENT_TIMEOUT = 100, 4096, 0.5
 
 
 def carry_out(building: Building, words: list[str]) -> None:
     """Carries out a command. One that is refused changes nothing."""
     match words:
-        case ["press", name, *button] if len(button) <= 1 and {one.upper() for one in button} <= {*BUTTONS}:
+        case ["press", name, *button] if len(button) <= 1 and {letter.upper() for letter in button} <= {*BUTTONS}:
             find_device(building, name, RPS, "is no switch").press(*map(str.upper, button))
         case ["open" | "close" as verb, name]:
             contact = find_device(building, name, ONE_BYTE, "is no contact")
@@ -26,47 +26,47 @@ def carry_out(building: Building, words: list[str]) -> None:
             contact.report()
         case ["send" | "learn" as verb, name]:
             if (device := find_device(building, name)).is_dead:
-                raise Refused("this device is dead")
+                raise RefusedCommand("this device is dead")
             (device.report if verb == "send" else device.teach_in)()
         case ["dead" | "alive" as verb, name]:
             find_device(building, name).is_dead = verb == "dead"
         case ["noise"]:
             for stick in building.sticks.values():
-                stick.port.write(building.chance.randbytes(NOISE_SIZE))
+                stick.port.write(building.rng.randbytes(NOISE_SIZE))
         case ["plug" | "unplug" as verb, name] if name in building.sticks:
             if building.sticks[name].is_plugged_in == (verb == "plug"):
-                raise Refused(f"the stick {name} is {'already' if verb == 'plug' else 'not'} plugged in")
+                raise RefusedCommand(f"the stick {name} is {'already' if verb == 'plug' else 'not'} plugged in")
             building.sticks[name].plug(verb == "plug")
         case _:
-            raise Refused(f"the commands are {'; '.join(FORMS)}; the buttons are {' '.join(BUTTONS)}; the sticks are "
-                          + " ".join(building.sticks))
+            raise RefusedCommand(f"the commands are {'; '.join(COMMAND_FORMS)}; the buttons are {' '.join(BUTTONS)}; "
+                                 "the sticks are " + " ".join(building.sticks))
 
 
 def find_device(building: Building, name: str, rorg: int | None = None, fault: str = "") -> Device:
     """The device with this ID, which has to be of this kind."""
-    found = building.devices.get(int(name, 16)) if re.fullmatch("[0-9A-Fa-f]{8}", name) else None
-    if found is None:
-        raise Refused("no device of the sheet has this ID")
-    if rorg not in (None, found.rorg):
-        raise Refused(f"this device ({found.row.eep}) {fault}")
-    return found
+    device = building.devices.get(int(name, 16)) if re.fullmatch("[0-9A-Fa-f]{8}", name) else None
+    if device is None:
+        raise RefusedCommand("no device of the sheet has this ID")
+    if rorg not in (None, device.rorg):
+        raise RefusedCommand(f"this device ({device.row.eep}) {fault}")
+    return device
 
 
 def answer(building: Building, line: bytes) -> bytes:
     """Carries out a command, and returns the line of its answer."""
     try:
         carry_out(building, line.decode("ascii", "replace").split(" "))
-    except Refused as error:
+    except RefusedCommand as error:
         return f"error: {error}\n".encode()
-    return f"{OK}\n".encode()
+    return f"{OK_ANSWER}\n".encode()
 
 
 def listen(folder: str) -> socket.socket:
     """Makes the socket of a folder, in place of that of a building that has ended."""
     listener, path = socket.socket(socket.AF_UNIX), os.path.join(folder, SOCKET_NAME)
-    with socket.socket(socket.AF_UNIX) as other, contextlib.suppress(OSError):
-        other.connect(path)
-        raise Refused(f"a building runs in {folder}")
+    with socket.socket(socket.AF_UNIX) as other_socket, contextlib.suppress(OSError):
+        other_socket.connect(path)
+        raise RefusedCommand(f"a building runs in {folder}")
     if os.path.exists(path) and stat.S_ISSOCK(os.lstat(path).st_mode):
         os.unlink(path)
     listener.bind(path)
@@ -79,8 +79,8 @@ def serve(building: Building, listener: socket.socket) -> None:
     client, _ = listener.accept()
     with client, contextlib.suppress(OSError):
         client.settimeout(CLIENT_TIMEOUT)
-        data = client.recv(MAX_SIZE)
-        lines = data[:-1].split(b"\n") if data.endswith(b"\n") else [b""]
+        request = client.recv(MAX_SIZE)
+        lines = request[:-1].split(b"\n") if request.endswith(b"\n") else [b""]
         client.sendall(b"".join(answer(building, line) for line in lines))
 
 
@@ -88,8 +88,8 @@ def give_command(folder: str, line: str) -> bool:
     """Gives a command to the building of a folder, and prints the answer. Returns whether it was carried out."""
     with socket.socket(socket.AF_UNIX) as client:
         if fault := client.connect_ex(path := os.path.join(folder, SOCKET_NAME)):
-            raise Refused(f"{path}: {os.strerror(fault)}: no building of this user runs there")
+            raise RefusedCommand(f"{path}: {os.strerror(fault)}: no building of this user runs there")
         client.sendall(f"{line}\n".encode())
-        found = client.makefile().readline().rstrip("\n")
-    print(found)
-    return found == OK
+        reply = client.makefile().readline().rstrip("\n")
+    print(reply)
+    return reply == OK_ANSWER

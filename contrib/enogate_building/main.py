@@ -13,7 +13,7 @@ from enogate_tools import VERSION, gateways, share
 
 from .building import Building, read_sheet
 from .control import give_command, listen, serve
-from .devices import Refused
+from .devices import RefusedCommand
 from .radio import Place
 from .stick import Terminal
 
@@ -24,10 +24,10 @@ STICK_FORM, DEFAULT_STICKS = "NAME:X,Y,FLOOR", ("ground:7,6,0", "attic:33,6,1")
 
 def stick_at(text: str) -> tuple[str, Place]:
     """The name and the place of a stick."""
-    found = re.fullmatch(r"([^:]+):(-?\d{1,4}),(-?\d{1,4}),(-?\d{1,2})", text, re.ASCII)
-    if not found or not gateways.is_name(found[1]):
+    match = re.fullmatch(r"([^:]+):(-?\d{1,4}),(-?\d{1,4}),(-?\d{1,2})", text, re.ASCII)
+    if not match or not gateways.is_name(match[1]):
         raise argparse.ArgumentTypeError(f"{text!r} is not {STICK_FORM}, such as {DEFAULT_STICKS[0]}")
-    return found[1], Place(*map(int, found.groups()[1:]))
+    return match[1], Place(*map(int, match.groups()[1:]))
 
 
 def parse_arguments(arguments: list[str]) -> argparse.Namespace:
@@ -59,18 +59,21 @@ def run(words: argparse.Namespace) -> None:
     os.makedirs(words.folder, exist_ok=True)
     # Only the user of this program may give commands.
     os.umask(0o177)
-    events, listener, begin = select.epoll(), listen(words.folder), time.monotonic()
+    events, listener, start_time = select.epoll(), listen(words.folder), time.monotonic()
     events.register(listener, select.EPOLLIN)
     for name, place in dict(words.stick or map(stick_at, DEFAULT_STICKS)).items():
         building.add_stick(name, place, Terminal(os.path.join(words.folder, f"{name}.stick"), events))
     print(f"{len(building.devices)} devices, and the sticks {', '.join(building.sticks)}", flush=True)
     try:
         while True:
-            left = building.due[0][0] / words.speed - (time.monotonic() - begin) if building.due else None
-            ready = [number for number, _ in events.poll(None if left is None else max(0.0, left))]
-            building.advance((time.monotonic() - begin) * words.speed)
+            seconds_left = None
+            if building.due_calls:
+                seconds_left = building.due_calls[0][0] / words.speed - (time.monotonic() - start_time)
+            ready = [file_number
+                     for file_number, _ in events.poll(None if seconds_left is None else max(0.0, seconds_left))]
+            building.advance((time.monotonic() - start_time) * words.speed)
             for stick in building.sticks.values():
-                stick.take(stick.port.read())
+                stick.handle_bytes(stick.port.read())
             if listener.fileno() in ready:
                 serve(building, listener)
     finally:
@@ -90,7 +93,7 @@ def main() -> int:
         run(words)
     except (KeyboardInterrupt, Stopped):
         return 0
-    except (OSError, Refused) as error:
+    except (OSError, RefusedCommand) as error:
         # The errors of sockets name no file.
         sys.stderr.write(f"virtual-building: {error}{'' if getattr(error, 'filename', 1) else f': {words.folder}'}\n")
         return 1

@@ -186,9 +186,9 @@ def dbm_of(members: dict[str, object]) -> int | None:
     return None if members["dbm"] is None else checked_number(members["dbm"], -MAX_BYTE, 0)
 
 
-def checked_text(value: object, shape: str) -> str:
+def checked_text(value: object, pattern: str) -> str:
     """A string that matches this pattern."""
-    if not isinstance(value, str) or not re.fullmatch(shape, value):
+    if not isinstance(value, str) or not re.fullmatch(pattern, value):
         raise UnexpectedMember
     return value
 

@@ -77,15 +77,15 @@ class EntityRow:
     def words(self, key: str) -> list[str]:
         return self.more[key].split("|") if key in self.more else []
 
-    def entity_numbers(self, reported: Iterable[str]) -> list[int | None]:
+    def entity_numbers(self, subtopics: Iterable[str]) -> list[int | None]:
         """The numbers of its entities, for a device with readings on these subtopics."""
         if not self.by:
             return [None]
         start = set(range(self.count)) if self.from_the_start else set()
         start_of_all = self.topic + "/"
-        ends = (one.removeprefix(start_of_all) for one in reported if one.startswith(start_of_all))
-        every = sorted(start | {int(end) for end in ends if CHANNEL_NUMBER.fullmatch(end)})
-        return [number for number in every if number <= GREATEST_CHANNEL.get(self.entity, number)]
+        ends = (subtopic.removeprefix(start_of_all) for subtopic in subtopics if subtopic.startswith(start_of_all))
+        all_numbers = sorted(start | {int(end) for end in ends if CHANNEL_NUMBER.fullmatch(end)})
+        return [number for number in all_numbers if number <= GREATEST_CHANNEL.get(self.entity, number)]
 
 
 def entity_row_of(line: str) -> EntityRow:
@@ -110,16 +110,16 @@ class Table:
 
     def __init__(self, path: str = "entities"):
         self.rows = [entity_row_of(line) for line in share.table_lines(path)]
-        self.found: dict[str, dict[tuple[str, str], EntityRow]] = {}
+        self.rows_by_profile: dict[str, dict[tuple[str, str], EntityRow]] = {}
 
     def rows_of_profile(self, eep: str) -> dict[tuple[str, str], EntityRow]:
         """The rows of a profile, by reading and unit: the first matching row of each."""
-        if eep not in self.found:
-            rows = self.found[eep] = {}
+        if eep not in self.rows_by_profile:
+            rows = self.rows_by_profile[eep] = {}
             for row in self.rows:
                 if fnmatch.fnmatchcase(eep, row.profiles):
                     rows.setdefault((row.reading, row.unit), row)
-        return self.found[eep]
+        return self.rows_by_profile[eep]
 
     def channel_of_all(self, eep: str) -> int | None:
         """The channel with which an actuator of this profile is asked for the states of all its channels; None if the
@@ -132,30 +132,30 @@ class Table:
         rows = self.rows_of_profile(eep)
         if (reading.name, reading.unit) in rows or reading.unit:
             return rows.get((reading.name, reading.unit))
-        named = [row for row in rows.values() if row.reading == reading.name]
-        return named[0] if len(named) == 1 else None
+        named_rows = [row for row in rows.values() if row.reading == reading.name]
+        return named_rows[0] if len(named_rows) == 1 else None
 
     def may_report(self, eep: str, subtopic: str) -> bool:
         """Whether `readings_by_subtopic` has this subtopic for some telegram of the profile."""
         rows = self.rows_of_profile(eep).values()
-        shown = [row for row in rows if row.entity not in ("", "event")]
-        name, slash, number = subtopic.partition("/")
-        if slash:
-            return name in {row.topic for row in shown if row.by} and bool(CHANNEL_NUMBER.fullmatch(number))
-        return name in {"dbm", *(row.reading for row in rows), *(row.topic for row in shown if not row.by)}
+        shown_rows = [row for row in rows if row.entity not in ("", "event")]
+        name, separator, number = subtopic.partition("/")
+        if separator:
+            return name in {row.topic for row in shown_rows if row.by} and bool(CHANNEL_NUMBER.fullmatch(number))
+        return name in {"dbm", *(row.reading for row in rows), *(row.topic for row in shown_rows if not row.by)}
 
     def readings_by_subtopic(self, telegram: Telegram) -> dict[str, str]:
         """The readings of a telegram, by their subtopics."""
-        reported = {}
-        numbers = {reading.name: reading.number for reading in telegram.readings}
+        texts_by_subtopic = {}
+        numbers_by_name = {reading.name: reading.number for reading in telegram.readings}
         for reading in telegram.readings:
-            reported[reading.name] = reading.text
+            texts_by_subtopic[reading.name] = reading.text
             row = self.row_of_reading(telegram.eep, reading)
-            if row and row.topic and row.entity != "event" and (not row.by or numbers.get(row.by) is not None):
-                reported[row.subtopic(numbers.get(row.by))] = reading.text
+            if row and row.topic and row.entity != "event" and (not row.by or numbers_by_name.get(row.by) is not None):
+                texts_by_subtopic[row.subtopic(numbers_by_name.get(row.by))] = reading.text
         if telegram.dbm is not None:
-            reported["dbm"] = str(telegram.dbm)
-        return reported
+            texts_by_subtopic["dbm"] = str(telegram.dbm)
+        return texts_by_subtopic
 
     def events_of(self, telegram: Telegram) -> list[tuple[str, str]]:
         """The events of a telegram, each with the subtopic of its entity and its type. A release is a single event."""

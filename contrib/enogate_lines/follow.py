@@ -21,9 +21,9 @@ class Position(NamedTuple):
     offset: int
     last: bytes
 
-    def after(self, part: bytes) -> Position:
+    def after(self, chunk: bytes) -> Position:
         """The position after this part, which follows."""
-        return Position(self.inode, self.offset + len(part), (self.last + part)[-MAX_LAST:])
+        return Position(self.inode, self.offset + len(chunk), (self.last + chunk)[-MAX_LAST:])
 
 
 START_OF_NO_FILE = Position(0, 0, b"")
@@ -41,7 +41,7 @@ class Follower:
         self.file: int | None = None
         self.position = position or START_OF_NO_FILE
         # the beginning of a line whose end has not been written yet
-        self.rest = b""
+        self.partial_line = b""
         # the next file, if it existed at the last call
         self.seen_next: str | None = None
         # the inodes of the files that existed before the open one
@@ -65,10 +65,10 @@ class Follower:
                 file = open_regular(path)
             except OSError:
                 continue
-            there = position_at(file, self.position.offset)
-            if there == self.position or (there.inode == self.position.inode and not is_same_boot):
+            found_position = position_at(file, self.position.offset)
+            if found_position == self.position or (found_position.inode == self.position.inode and not is_same_boot):
                 self.file, self.older = file, inodes_of(paths[:number])
-                if there != self.position:
+                if found_position != self.position:
                     self.warn(f"{path}: lines were lost, continuing at the end")
                     self.position = position_after_last_line(file)
                 return True
@@ -88,63 +88,63 @@ class Follower:
                 self.position = position_after_last_line(self.file)
         assert self.file is not None
         size = os.fstat(self.file).st_size
-        if size < self.position.offset + len(self.rest):
-            self.rest = b""
+        if size < self.position.offset + len(self.partial_line):
+            self.partial_line = b""
         if size < self.position.offset:
             # what is left of the file was read before
             self.warn(f"{self.path}: file truncated, continuing at its end")
             self.position = position_after_last_line(self.file)
-        added = os.pread(self.file, MAX_READ, self.position.offset + len(self.rest))
-        if len(added) < MAX_READ:
+        chunk = os.pread(self.file, MAX_READ, self.position.offset + len(self.partial_line))
+        if len(chunk) < MAX_READ:
             # NUL bytes at the end, which a power failure leaves, are truncated when the gateway starts
-            added = added.rstrip(b"\0")
-        if not added:
+            chunk = chunk.rstrip(b"\0")
+        if not chunk:
             self.open_next()
             return []
         self.seen_next, self.is_at_end = None, False
-        return self.split_lines(added)
+        return self.split_lines(chunk)
 
-    def split_lines(self, added: bytes) -> list[tuple[bytes, Position]]:
+    def split_lines(self, chunk: bytes) -> list[tuple[bytes, Position]]:
         """The lines that end with these bytes. Data longer than any line of a gateway is returned as a line."""
-        *whole, self.rest = (self.rest + added).split(b"\n")
+        *whole_lines, self.partial_line = (self.partial_line + chunk).split(b"\n")
         lines = []
-        for line in whole:
+        for line in whole_lines:
             lines.append((without_nuls(line), self.position))
             self.position = self.position.after(line + b"\n")
-        if len(self.rest) > MAX_READ:
-            lines.append((self.rest, self.position))
-            self.position, self.rest = self.position.after(self.rest), b""
+        if len(self.partial_line) > MAX_READ:
+            lines.append((self.partial_line, self.position))
+            self.position, self.partial_line = self.position.after(self.partial_line), b""
         return lines
 
     def open_next(self) -> None:
         """At the end of this file, continues with the next one, if there is one. It must have existed at the last call
         too: a line may still be written to the old one."""
-        following = self.next_file()
-        self.is_at_end = following is None
-        if following and following == self.seen_next:
-            if self.rest:
-                self.warn(f"incomplete line ignored: {self.rest[:SHOWN_OF_A_LINE]!r}")
-            self.is_at_end = not self.open_at_start(following)
+        next_path = self.next_file()
+        self.is_at_end = next_path is None
+        if next_path and next_path == self.seen_next:
+            if self.partial_line:
+                self.warn(f"incomplete line ignored: {self.partial_line[:SHOWN_OF_A_LINE]!r}")
+            self.is_at_end = not self.open_at_start(next_path)
             if self.is_at_end and not self.is_failing:
-                self.warn(f"cannot open {following}: {self.fault}; retrying")
+                self.warn(f"cannot open {next_path}: {self.fault}; retrying")
             self.is_failing = self.is_at_end
         else:
-            self.seen_next = following
+            self.seen_next = next_path
 
     def next_file(self) -> str | None:
         """The file that was written after this one, if there is one."""
         assert self.file is not None
-        own = os.fstat(self.file).st_ino
-        if inode_of(self.path) == own:
+        own_inode = os.fstat(self.file).st_ino
+        if inode_of(self.path) == own_inode:
             return None
         paths = rotated_files(self.path)
-        there = [(path, inode) for path in paths if (inode := inode_of(path))]
-        indices = [number for number, (_, inode) in enumerate(there) if inode == own]
+        paths_and_inodes = [(path, inode) for path in paths if (inode := inode_of(path))]
+        indices = [number for number, (_, inode) in enumerate(paths_and_inodes) if inode == own_inode]
         if indices:
-            later = there[indices[0] + 1:]
+            later = paths_and_inodes[indices[0] + 1:]
         else:
             # this file was compressed or removed: those that existed before it are not read again
-            later = [(path, inode) for path, inode in there if inode not in self.older]
+            later = [(path, inode) for path, inode in paths_and_inodes if inode not in self.older]
         return later[0][0] if later else None
 
     def open_at_start(self, path: str) -> bool:
@@ -157,7 +157,7 @@ class Follower:
             return False
         if self.file is not None:
             os.close(self.file)
-        self.file, self.rest, self.seen_next = file, b"", None
+        self.file, self.partial_line, self.seen_next = file, b"", None
         paths = rotated_files(self.path)
         self.older = inodes_of(paths[:paths.index(path)] if path in paths else [])
         self.position = Position(os.fstat(file).st_ino, 0, b"")
@@ -186,13 +186,13 @@ def rotated_files(path: str) -> list[str]:
     folder, name = os.path.split(path)
     try:
         with os.scandir(folder or ".") as entries:
-            ends = [entry.name[len(name):] for entry in entries
-                    if entry.name.startswith(name) and entry.is_file(follow_symlinks=False)]
+            endings = [entry.name[len(name):] for entry in entries
+                       if entry.name.startswith(name) and entry.is_file(follow_symlinks=False)]
     except OSError:
-        ends = []
-    dated = sorted(end for end in ends if re.fullmatch(r"-[0-9-]+", end))
-    numbers = sorted((int(end[1:]) for end in ends if re.fullmatch(r"\.[0-9]+", end)), reverse=True)
-    return [*(path + end for end in dated), *(f"{path}.{number}" for number in numbers), path]
+        endings = []
+    dated_endings = sorted(ending for ending in endings if re.fullmatch(r"-[0-9-]+", ending))
+    numbers = sorted((int(ending[1:]) for ending in endings if re.fullmatch(r"\.[0-9]+", ending)), reverse=True)
+    return [*(path + ending for ending in dated_endings), *(f"{path}.{number}" for number in numbers), path]
 
 
 def position_at(file: int, offset: int) -> Position:
@@ -201,7 +201,7 @@ def position_at(file: int, offset: int) -> Position:
     return Position(os.fstat(file).st_ino, offset, os.pread(file, offset - start, start))
 
 
-def position_at_end(path: str, before: int = 0) -> Position | None:
+def position_at_end(path: str, bytes_before_end: int = 0) -> Position | None:
     """The position at the end of the file at this path, or so many bytes before it; None if the file cannot be read. It
     may grow meanwhile."""
     try:
@@ -209,7 +209,7 @@ def position_at_end(path: str, before: int = 0) -> Position | None:
     except OSError:
         return None
     try:
-        return position_at(file, max(0, os.lseek(file, 0, os.SEEK_END) - before))
+        return position_at(file, max(0, os.lseek(file, 0, os.SEEK_END) - bytes_before_end))
     finally:
         os.close(file)
 

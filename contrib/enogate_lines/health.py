@@ -15,12 +15,12 @@ SUPPLY_VOLTAGE, LOW_VOLTAGE = "SVC", 2.5
 
 
 class ObservedDevice(NamedTuple):
-    """A learned device. `reported` has its last readings by their subtopics, and `seen` is the time of its last
-    telegram in seconds since 1970, if it is known."""
+    """A learned device, with its last readings by their subtopics, and the time of its last telegram in seconds since
+    1970, if that is known."""
     name: str
     eep: str
-    reported: Mapping[str, str]
-    seen: float | None
+    last_readings: Mapping[str, str]
+    last_seen: float | None
 
 
 class Health(NamedTuple):
@@ -36,14 +36,15 @@ class Health(NamedTuple):
 def health_of(devices: Iterable[ObservedDevice], table: Table, now: float) -> Health:
     """The state of these devices at this time, in seconds since 1970. If the time of the last telegram of a device is
     not known, or is in the future, because a clock was wrong, the device is neither heard nor silent."""
-    every = sorted(devices, key=lambda device: device.name)
-    times = {device.name: device.seen for device in every if device.seen is not None and device.seen <= now}
-    silent = [device.name for device in every
-              if device.name in times and now - times[device.name] > longest_silence(device.eep, table)]
-    return Health(heard=sorted(times.keys() - set(silent)), silent=silent,
-                  weak=[device.name for device in every if is_below(device, "dbm", WEAK_SIGNAL)],
-                  low_battery=[device.name for device in every if is_below(device, SUPPLY_VOLTAGE, LOW_VOLTAGE)],
-                  last_telegram=max(times.values(), default=None))
+    devices = sorted(devices, key=lambda device: device.name)
+    times_by_name = {device.name: device.last_seen for device in devices
+                     if device.last_seen is not None and device.last_seen <= now}
+    silent = [device.name for device in devices if device.name in times_by_name
+              and now - times_by_name[device.name] > longest_silence(device.eep, table)]
+    return Health(heard=sorted(times_by_name.keys() - set(silent)), silent=silent,
+                  weak=[device.name for device in devices if is_below(device, "dbm", WEAK_SIGNAL)],
+                  low_battery=[device.name for device in devices if is_below(device, SUPPLY_VOLTAGE, LOW_VOLTAGE)],
+                  last_telegram=max(times_by_name.values(), default=None))
 
 
 def longest_silence(eep: str, table: Table) -> float:
@@ -56,6 +57,6 @@ def longest_silence(eep: str, table: Table) -> float:
 def is_below(device: ObservedDevice, subtopic: str, limit: float) -> bool:
     """Whether a reading of a device is a number below this limit. It may be missing, or a word."""
     try:
-        return float(device.reported[subtopic]) < limit
+        return float(device.last_readings[subtopic]) < limit
     except (KeyError, ValueError):
         return False

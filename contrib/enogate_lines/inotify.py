@@ -1,4 +1,5 @@
-"""Notices that files have changed: inotify, through the C library."""
+"""Notices that files have changed: inotify, through the C library. No call has a callback, so MemoryDenyWriteExecute of
+systemd permits them."""
 from __future__ import annotations
 
 import ctypes
@@ -25,7 +26,7 @@ class WatchedFiles:
         self.watches = [(os.fsencode(path), FILE_EVENTS) for path in paths] + [
             (os.fsencode(folder), FOLDER_EVENTS) for folder in folders]
         # the numbers of what is watched: a new one is that of another file or directory
-        self.watched: list[int] = []
+        self.watched_paths: list[int] = []
         try:
             self.library = ctypes.CDLL(None, use_errno=True)
             self.file = self.library.inotify_init1(os.O_NONBLOCK | os.O_CLOEXEC)
@@ -40,12 +41,12 @@ class WatchedFiles:
         meanwhile has not been noticed."""
         if self.file < 0:
             return POLL_PAUSE
-        before, self.watched, are_all = self.watched, [], True
+        watched_before, self.watched_paths, are_all = self.watched_paths, [], True
         for path, mask in self.watches:
-            self.watched.append(self.library.inotify_add_watch(self.file, path, mask))
-            if self.watched[-1] < 0:
+            self.watched_paths.append(self.library.inotify_add_watch(self.file, path, mask))
+            if self.watched_paths[-1] < 0:
                 are_all &= mask == FILE_EVENTS and ctypes.get_errno() == errno.ENOENT
-        if self.watched != before:
+        if self.watched_paths != watched_before:
             return 0.0
         return LONGEST_WAIT if are_all else POLL_PAUSE
 

@@ -37,7 +37,7 @@ def samples_of(state: GatewayState) -> Iterator[Sample]:
     yield Sample("enogate_info", {**gateway, "version": VERSION, **({"base_id": state.base} if state.base else {})}, 1)
     yield Sample("enogate_unit_active", gateway, state.is_active)
     yield Sample("enogate_stick_present", gateway, state.has_stick)
-    yield Sample("enogate_devices_learned", gateway, state.learned)
+    yield Sample("enogate_devices_learned", gateway, state.learned_count)
     if health:
         yield Sample("enogate_devices_weak", gateway, len(health.weak))
         yield Sample("enogate_devices_low_battery", gateway, len(health.low_battery))
@@ -47,17 +47,17 @@ def samples_of(state: GatewayState) -> Iterator[Sample]:
         yield Sample("enogate_devices_silent", gateway, len(health.silent))
     for kind, count in sorted(state.counters.items()):
         yield Sample("enogate_packets_total", {**gateway, "kind": kind}, count)
-    for what, free in sorted(state.free.items()):
-        yield Sample("enogate_free_bytes", {**gateway, "of": what}, free)
+    for use, size in sorted(state.free_bytes.items()):
+        yield Sample("enogate_free_bytes", {**gateway, "of": use}, size)
 
 
 def exposition(states: Iterable[GatewayState]) -> str:
     """The metrics of these gateways. All values of a metric follow each other."""
     samples = [sample for state in states for sample in samples_of(state) if sample.value is not None]
     lines = []
-    for metric, (kind, text) in METRICS.items():
-        if values := [sample_line(sample) for sample in samples if sample.metric == metric]:
-            lines += [f"# HELP {metric} {text}", f"# TYPE {metric} {kind}", *values]
+    for metric, (metric_type, help_text) in METRICS.items():
+        if sample_lines := [sample_line(sample) for sample in samples if sample.metric == metric]:
+            lines += [f"# HELP {metric} {help_text}", f"# TYPE {metric} {metric_type}", *sample_lines]
     return "".join(f"{line}\n" for line in lines)
 
 

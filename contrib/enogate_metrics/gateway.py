@@ -25,33 +25,33 @@ from enogate_tools.system import System
 
 
 class GatewayState(NamedTuple):
-    """What is known about a gateway; None, an empty text or nothing for what is not known. Without times, nothing is
-    known about silence. The free bytes are those of file systems, by what is stored there."""
+    """What is known about a gateway; None, an empty text or an empty mapping for what is not known. Without times,
+    nothing is known about silence. The free bytes are those of file systems, by what is stored there."""
     name: str
     is_active: bool | None
     has_stick: bool | None
     base: str
-    learned: int | None
+    learned_count: int | None
     health: Health | None
     has_times: bool
     counters: Mapping[str, int]
-    free: Mapping[str, int]
+    free_bytes: Mapping[str, int]
 
 
 def state_of(name: str, system: System, table: Table, now: float) -> GatewayState:
     """The state of the gateway with this name at this time, in seconds since 1970."""
     paths, settings = paths_of(name, system.root), settings_of(name, system)
-    unit = system.unit_state(paths.unit)
+    unit_state = system.unit_state(paths.unit)
     status, base = last_status_and_base(paths.lines)
     devices, has_times = observed_devices(paths, system, table)
-    folders = {"lines": os.path.dirname(paths.lines), "database": system.path(DATABASE_FOLDER)}
+    folders_by_use = {"lines": os.path.dirname(paths.lines), "database": system.path(DATABASE_FOLDER)}
     return GatewayState(
-        name=name, is_active=unit == "active" if unit else None, has_stick=is_port(settings["SERIAL"]),
+        name=name, is_active=unit_state == "active" if unit_state else None, has_stick=is_port(settings["SERIAL"]),
         base=base or base_in(settings["BASE"]) or first_base(system.path(f"{DATABASE_FOLDER}/{name}.base")),
-        learned=None if devices is None else len(devices),
+        learned_count=None if devices is None else len(devices),
         health=None if devices is None else health_of(devices, table, now), has_times=has_times,
         counters=status.counters if status else {},
-        free={what: free for what, folder in folders.items() if (free := free_bytes(folder)) is not None})
+        free_bytes={use: size for use, folder in folders_by_use.items() if (size := free_bytes(folder)) is not None})
 
 
 def settings_of(name: str, system: System) -> dict[str, str]:
@@ -82,8 +82,8 @@ def last_status_and_base(path: str) -> tuple[Status | None, str]:
             continue
         with contextlib.suppress(BadLine):
             match content_of(line):
-                case Status() as found:
-                    status = status or found
+                case Status() as earlier_status:
+                    status = status or earlier_status
                 case Response(0, data):
                     base = base or base_in(data)
         if status and base:
@@ -110,30 +110,34 @@ def observed_devices(paths: Paths, system: System, table: Table) -> tuple[list[O
     their telegrams are known. A bridge that runs knows these; otherwise, the readings are those near the end of the
     lines."""
     try:
-        learned = recorded_devices(paths)
+        learned_devices = recorded_devices(paths)
     except UnreadableLines:
         return None, False
-    saved = saved_readings(paths.bridge) if system.unit_state(f"enogate-mqtt@{paths.name}") == "active" else None
-    if saved is None:
-        reports = {device: found[0][0] for device, found in last_reports(paths.lines).items()}
-        readings = {device: table.readings_by_subtopic(report) for device, report in reports.items()}
-    devices = []
-    for device in learned:
-        reported = (readings if saved is None else saved).get(device.device, {})
-        time = time_in(reported)
-        devices.append(ObservedDevice(device.device, device.eep, reported, time.timestamp() if time else None))
-    return devices, saved is not None
+    is_bridge_active = system.unit_state(f"enogate-mqtt@{paths.name}") == "active"
+    saved = saved_readings(paths.bridge) if is_bridge_active else None
+    readings_by_device = recorded_readings(paths.lines, table) if saved is None else saved
+    observed = []
+    for device in learned_devices:
+        readings = readings_by_device.get(device.device, {})
+        time = time_in(readings)
+        observed.append(ObservedDevice(device.device, device.eep, readings, time.timestamp() if time else None))
+    return observed, saved is not None
+
+
+def recorded_readings(path: str, table: Table) -> dict[str, dict[str, str]]:
+    """The readings in the last telegram of each device, if it is near the end of these lines."""
+    return {device: table.readings_by_subtopic(reports[0][0]) for device, reports in last_reports(path).items()}
 
 
 def saved_readings(path: str) -> dict[str, dict[str, str]] | None:
     """The last readings of each device that the bridge with this state file has saved, or None if it cannot be read. If
     the bridge begins a new log between the copies of the file and of its log, they may be older, or none."""
     with tempfile.TemporaryDirectory(dir=MEMORY_FOLDER if os.access(MEMORY_FOLDER, os.W_OK) else None) as folder:
-        copy = f"{folder}/copy"
+        copy_path = f"{folder}/copy"
         try:
-            if not (copy_if_small(path, copy) and copy_if_small(f"{path}-wal", f"{copy}-wal")):
+            if not (copy_if_small(path, copy_path) and copy_if_small(f"{path}-wal", f"{copy_path}-wal")):
                 return None
-            with contextlib.closing(sqlite3.connect(copy)) as connection:
+            with contextlib.closing(sqlite3.connect(copy_path)) as connection:
                 connection.set_progress_handler(lambda: 1, MAX_SQLITE_STEPS)
                 return last_readings(connection)
         except (OSError, sqlite3.Error, ForeignFile):
@@ -144,6 +148,6 @@ def free_bytes(folder: str) -> int | None:
     """How many bytes are free in the file system of this directory, or of the one in which it will be."""
     for path in (folder, os.path.dirname(folder)):
         with contextlib.suppress(OSError):
-            found = os.statvfs(path)
-            return found.f_bavail * found.f_frsize
+            file_system = os.statvfs(path)
+            return file_system.f_bavail * file_system.f_frsize
     return None

@@ -25,24 +25,25 @@ STANDARD_OUTPUT = "-"
 
 
 def replace_file(folder: str, text: str) -> None:
-    """Replaces the file in this directory, or raises OSError. A reader gets the old file or the new one; what has the
-    name of either is not written to, but removed."""
-    new = f".{FILE_NAME}.{os.getpid()}"
-    place = os.open(folder, os.O_RDONLY | os.O_DIRECTORY | os.O_CLOEXEC)
+    """Replaces the file in this directory, or raises OSError. A reader gets the old file or the new one. Nothing that
+    exists is written to: a link in place of either file is removed."""
+    temporary_name = f".{FILE_NAME}.{os.getpid()}"
+    directory = os.open(folder, os.O_RDONLY | os.O_DIRECTORY | os.O_CLOEXEC)
     try:
         with contextlib.suppress(FileNotFoundError):
-            os.unlink(new, dir_fd=place)
-        made = os.open(new, os.O_WRONLY | os.O_CREAT | os.O_EXCL | os.O_CLOEXEC, FILE_MODE, dir_fd=place)
+            os.unlink(temporary_name, dir_fd=directory)
+        flags = os.O_WRONLY | os.O_CREAT | os.O_EXCL | os.O_CLOEXEC
+        descriptor = os.open(temporary_name, flags, FILE_MODE, dir_fd=directory)
         try:
-            with os.fdopen(made, "w", encoding="utf-8") as file:
-                os.fchmod(made, FILE_MODE)
+            with os.fdopen(descriptor, "w", encoding="utf-8") as file:
+                os.fchmod(descriptor, FILE_MODE)
                 file.write(text)
-            os.rename(new, FILE_NAME, src_dir_fd=place, dst_dir_fd=place)
+            os.rename(temporary_name, FILE_NAME, src_dir_fd=directory, dst_dir_fd=directory)
         except OSError:
-            os.unlink(new, dir_fd=place)
+            os.unlink(temporary_name, dir_fd=directory)
             raise
     finally:
-        os.close(place)
+        os.close(directory)
 
 
 def read_arguments(arguments: Sequence[str] | None) -> argparse.Namespace:

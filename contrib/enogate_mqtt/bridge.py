@@ -63,7 +63,7 @@ class Bridge:
                  requests: Requests, store: Store, clock: Callable[[], float], wall: Callable[[], float],
                  wait: Callable[[list[Connection], float, bool], None]):
         self.topics, self.broker, self.devices, self.follower = topics, broker, devices, follower
-        self.desk, self.requests, self.store, self.clock, self.wall = desk, requests, store, clock, wall
+        self.desk, self.requests, self.store, self.clock, self.time_of_day = desk, requests, store, clock, wall
         self.wait = wait
         self.outbox, self.backlog = Outbox(), Backlog()
         self.health = HealthReport(devices, requests, clock, wall)
@@ -79,19 +79,20 @@ class Bridge:
         # whether what the broker retains was compared, so that the readings there are the last ones
         self.is_online = False
         # what the broker retains about the gateway itself, once this is known, and the deletions that are under way
-        self.reported: dict[str, str] | None = None
-        self.deleting: dict[str, int] = {}
+        self.gateway_reports: dict[str, str] | None = None
+        self.deletion_numbers: dict[str, int] = {}
         # when the counters were published
-        self.counted_at = -math.inf
+        self.counters_sent_at = -math.inf
         # whether its own message `online` has come back on this connection
         self.echo = Probe(math.inf, ECHO_WITHIN)
         # when what is retained is compared again, and until when the lines are not looked at
-        self.compare_at = self.look_at = 0.0
-        self.saved: Position | None = store.position if store.is_same_boot else None
+        self.compare_at = self.next_look_at = 0.0
+        self.saved_state: Position | None = store.position if store.is_same_boot else None
         self.saved_at = 0.0
         # the newest time of a telegram in an earlier run, and until when an earlier time is not published
-        self.newest = max((device.reported.get(LAST_SEEN_SUBTOPIC, "") for device in store.devices), default="")
-        self.waits_until = clock() + CLOCK_SET_WITHIN
+        self.newest_last_seen = max((device.last_readings.get(LAST_SEEN_SUBTOPIC, "") for device in store.devices),
+                                    default="")
+        self.clock_set_until = clock() + CLOCK_SET_WITHIN
         self.is_unknown_asked = False
 
     def run(self) -> None:
@@ -115,28 +116,29 @@ class Bridge:
         and after a position that was not found, all lines may be."""
         self.read_existing_lines(self.store.is_same_boot and self.follower.is_found, is_earlier=True)
         self.has_read |= not self.is_stopped
-        self.devices.lists = 0
-        self.requests.list = ListRequest()
+        self.devices.list_count = 0
+        self.requests.list_request = ListRequest()
 
     def turn(self) -> None:
         """Waits until there is something to do, and does it."""
-        connections = [one for one in (self.broker.connection, self.reader) if one]
+        connections = [connection_or_reader
+                       for connection_or_reader in (self.broker.connection, self.reader) if connection_or_reader]
         self.wait(connections, self.longest_wait(), self.follower.seen_next is None)
         if self.broker.turn():
             self.handle_connected()
         self.turn_reader()
         # what has arrived before a loss is handled too
         for connection in filter(None, (self.connection, self.reader)):
-            received, connection.received = connection.received, []
-            for message in received:
+            received_message, connection.received_messages = connection.received_messages, []
+            for message in received_message:
                 self.handle_message(message)
         if self.connection is not self.broker.connection:
             self.connection = self.reconciler = None
             self.close_reader()
-        if self.clock() >= self.look_at:
+        if self.clock() >= self.next_look_at:
             self.handle_lines(True)
             # a file that follows another one is not read at once: a line may still be written to the other one
-            self.look_at = self.clock() + POLL_PAUSE if self.follower.seen_next else 0.0
+            self.next_look_at = self.clock() + POLL_PAUSE if self.follower.seen_next else 0.0
         self.publish(self.devices.end_label_waits())
         self.requests.turn(self.devices.needs_list)
         self.devices.needs_list = False
@@ -172,7 +174,7 @@ class Bridge:
         if not self.connection or not self.reconciler:
             return self.broker.connection is not None
         is_settled = self.is_online and self.reconciler.is_done and not self.reader
-        return not is_settled or bool(self.backlog or self.outbox.entries or self.connection.unacknowledged)
+        return not is_settled or bool(self.backlog or self.outbox.entries or self.connection.unacknowledged_numbers)
 
     def turn_reader(self) -> None:
         """Handles what the broker retains. The reader is opened when it is needed, and closed when all is compared."""
@@ -215,17 +217,17 @@ class Bridge:
         self.close_reader()
         self.outbox.start_session()
         self.backlog = Backlog()
-        self.reported, self.deleting = None, {}
+        self.gateway_reports, self.deletion_numbers = None, {}
         self.reconciler = Reconciler(self.clock, self.publish_differences)
         self.is_online, self.echo = False, Probe(math.inf, ECHO_WITHIN)
-        self.publish([Message(topic, "", True) for topic in sorted(self.devices.removed)])
+        self.publish([Message(topic, "", True) for topic in sorted(self.devices.removed_topics)])
         self.compare_all(self.reconciler)
         self.is_unknown_asked = False
 
     def compare_all(self, reconciler: Reconciler) -> None:
         """Compares everything that the broker retains about the gateway and its devices."""
         reconciler.add([Part(GATEWAY_PART, [*self.topics.report_topics, *self.gateway_configs()])])
-        reconciler.add(map(self.part_of_device, sorted(self.devices.known)))
+        reconciler.add(map(self.part_of_device, sorted(self.devices.known_devices)))
         self.compare_at = self.clock() + COMPARE_EVERY
 
     def gateway_configs(self) -> dict[str, str]:
@@ -234,7 +236,7 @@ class Bridge:
 
     def part_of_device(self, device: str) -> Part:
         """What the broker may retain about a device: its readings, and the discovery messages that it should have."""
-        return Part(device, [*self.topics.device_filters(device), *self.devices.shown[device]])
+        return Part(device, [*self.topics.device_filters(device), *self.devices.shown_configs[device]])
 
     def parts_for_unknown_devices(self) -> list[Part]:
         """Without a state file it is unknown which devices were published before: the broker is asked for all, in parts
@@ -242,34 +244,36 @@ class Bridge:
         filters = [[f"{self.topics.root}/+/+"], [f"{self.topics.root}/+/+/+"]]
         if self.topics.discovery:
             filters += [[self.topics.config(component, "+")] for component in sorted(discovery.COMPONENTS)]
-        return [Part(UNKNOWN_PART, some, is_large=True, expected=self.wanted_messages()) for some in filters]
+        return [Part(UNKNOWN_PART, some_filters, is_large=True, expected_topics=self.wanted_messages())
+                for some_filters in filters]
 
     def wanted_messages(self) -> dict[str, str]:
         """Everything that the broker should retain, by topic."""
-        wanted = self.gateway_configs()
-        for device in self.devices.known:
-            wanted |= self.devices.retained_messages(device)
-        return wanted
+        messages = self.gateway_configs()
+        for device in self.devices.known_devices:
+            messages |= self.devices.retained_messages(device)
+        return messages
 
     def publish_differences(self, part: Part) -> None:
         """Publishes the differences between what is retained and what should be."""
-        there = {topic: text for topic, text in part.retained.items() if text}
-        wanted = self.gateway_configs() if part.name == GATEWAY_PART else {}
+        retained_texts = {topic: text for topic, text in part.retained.items() if text}
+        expected_texts = self.gateway_configs() if part.name == GATEWAY_PART else {}
         if part.name == GATEWAY_PART:
-            self.reported = {topic: there.pop(topic) for topic in self.topics.report_topics if topic in there}
+            self.gateway_reports = {topic: retained_texts.pop(topic)
+                                    for topic in self.topics.report_topics if topic in retained_texts}
         if part.name == UNKNOWN_PART:
-            wanted, self.devices.may_adopt = self.wanted_messages(), False
-        elif part.name in self.devices.known:
+            expected_texts, self.devices.may_adopt = self.wanted_messages(), False
+        elif part.name in self.devices.known_devices:
             # a list, since a device may be shown with other entities
-            if any([self.devices.adopt_reading(topic, text) for topic, text in there.items()]):
-                self.publish(self.devices.update_discovery(self.devices.known[part.name]))
-            wanted = self.devices.retained_messages(part.name)
+            if any([self.devices.adopt_reading(topic, text) for topic, text in retained_texts.items()]):
+                self.publish(self.devices.update_discovery(self.devices.known_devices[part.name]))
+            expected_texts = self.devices.retained_messages(part.name)
         if part.name != UNKNOWN_PART:
             # the topics of a device that was not shown before are not in this part, and were published meanwhile
-            self.publish([Message(topic, text, True) for topic, text in wanted.items()
-                          if there.get(topic) != text and part.has_topic(topic)])
-        strays = (topic for topic in there
-                  if topic not in wanted and self.is_stray(topic) and not self.devices.is_shown_on(topic))
+            self.publish([Message(topic, text, True) for topic, text in expected_texts.items()
+                          if retained_texts.get(topic) != text and part.has_topic(topic)])
+        strays = (topic for topic in retained_texts
+                  if topic not in expected_texts and self.is_stray(topic) and not self.devices.is_shown_on(topic))
         self.publish(self.devices.delete_retained(strays))
 
     def is_stray(self, topic: str) -> bool:
@@ -290,7 +294,7 @@ class Bridge:
 
     def has_room(self) -> bool:
         """Whether another message may be under way."""
-        return self.connection is not None and len(self.connection.unacknowledged) < MAX_UNDER_WAY
+        return self.connection is not None and len(self.connection.unacknowledged_numbers) < MAX_UNDER_WAY
 
     def publish_waiting(self) -> None:
         """Publishes messages that wait, while there is room for them."""
@@ -298,7 +302,7 @@ class Bridge:
             message = self.backlog.pop_next()
             number = self.send(message)
             if message.retained and not message.payload:
-                self.deleting[message.topic] = number
+                self.deletion_numbers[message.topic] = number
             if message.topic == self.topics.status and self.echo.is_online is None:
                 self.echo.note_asked(self.clock())
 
@@ -313,7 +317,8 @@ class Bridge:
 
     def handle_lines(self, are_kept: bool, is_late: bool = False, is_earlier: bool = False) -> None:
         """Handles the lines that have arrived. When they are late, the time of their arrival is not known."""
-        lists, known, now = self.devices.lists, set(self.devices.known), self.plausible_time()
+        lists_before, known_before = self.devices.list_count, set(self.devices.known_devices)
+        now = self.plausible_time()
         for line, position, content in decoded_lines(self.follower.read(), self.devices, self.rate_limited_log.warning):
             if are_kept:
                 self.outbox.add(line, position, self.clock(), now)
@@ -321,19 +326,19 @@ class Bridge:
             if not is_earlier:
                 self.requests.handle_line(content)
                 self.health.handle_line(content)
-        if self.devices.lists > lists:
-            self.requests.list.note_answer()
+        if self.devices.list_count > lists_before:
+            self.requests.list_request.note_answer()
         if self.reconciler:
-            self.reconciler.add(map(self.part_of_device, sorted(self.devices.known.keys() - known)))
-            if self.devices.may_adopt and self.devices.lists and not self.is_unknown_asked:
+            self.reconciler.add(map(self.part_of_device, sorted(self.devices.known_devices.keys() - known_before)))
+            if self.devices.may_adopt and self.devices.list_count and not self.is_unknown_asked:
                 self.is_unknown_asked = True
                 self.reconciler.add(self.parts_for_unknown_devices())
 
     def plausible_time(self) -> float | None:
         """The time; None if it is earlier than that of an earlier run, soon after the start: a computer without a clock
         chip has the wrong time until the network is there. Later it counts, since the earlier time may be wrong."""
-        now = self.wall()
-        return None if time_text(now) < self.newest and self.clock() < self.waits_until else now
+        now = self.time_of_day()
+        return None if time_text(now) < self.newest_last_seen and self.clock() < self.clock_set_until else now
 
     def handle_message(self, message: ReceivedMessage) -> None:
         """Handles a message from the broker."""
@@ -361,8 +366,9 @@ class Bridge:
             elif not self.echo.is_online:
                 self.echo.note_answer()
                 self.broker.report_connected()
-        if self.reported is not None and topic in self.topics.report_topics and text != self.reported.get(topic):
-            self.reported.pop(topic, None)
+        if (self.gateway_reports is not None and topic in self.topics.report_topics
+            and text != self.gateway_reports.get(topic)):
+            self.gateway_reports.pop(topic, None)
 
     def pass_orders_on(self, message: ReceivedMessage) -> None:
         """Passes the orders of a message to the gateway."""
@@ -374,51 +380,54 @@ class Bridge:
                 # learn window
                 self.requests.schedule_window_end(self.requests.learn_for)
                 self.save()
-            left_out = self.desk.give(orders, len(self.devices.known))
+            left_out_count = self.desk.give(orders, len(self.devices.known_devices))
         except InvalidMessage as invalid:
             self.rate_limited_log.warning("refused", f"message on {message.topic!r} ignored: {invalid}")
             return
         except OSError as error:
-            lost = f"message on {message.topic!r} lost: {self.desk.path}: {error.strerror or error}"
-            self.rate_limited_log.warning("lost", lost)
+            lost_text = f"message on {message.topic!r} lost: {self.desk.path}: {error.strerror or error}"
+            self.rate_limited_log.warning("lost", lost_text)
             self.requests.window = window
             return
-        if left_out:
-            left_out_of = f"message on {message.topic!r}: {left_out} orders not passed on: "
+        if left_out_count:
+            left_out_of = f"message on {message.topic!r}: {left_out_count} orders not passed on: "
             self.rate_limited_log.warning("left out", left_out_of + "an earlier list or status is not answered yet")
         self.requests.note_window_orders(orders)
-        if self.requests.gateway.is_online is False:
+        if self.requests.gateway_probe.is_online is False:
             may_be_lost = f"message on {message.topic!r}: the gateway does not answer, orders may be lost"
             self.rate_limited_log.warning("offline", may_be_lost)
 
     def publish_gateway_reports(self) -> None:
         """Publishes what is known about the gateway itself, if it has changed."""
-        if self.reported is None:
+        if self.gateway_reports is None:
             return
-        now, gateway, module = {}, self.requests.gateway.is_online, self.requests.module.is_online
+        reports, gateway, module = {}, self.requests.gateway_probe.is_online, self.requests.module_probe.is_online
         if gateway is not None:
-            now[self.topics.gateway] = "online" if gateway else "offline"
+            reports[self.topics.gateway] = "online" if gateway else "offline"
         if gateway is False or module is not None:
-            now[self.topics.module] = "online" if gateway and module else "offline"
+            reports[self.topics.module] = "online" if gateway and module else "offline"
         if self.requests.status:
-            now[self.topics.learn] = "OFF" if self.requests.status.mode == "closed" else "ON"
-            if self.topics.counters not in self.reported or self.clock() >= self.counted_at + COUNTERS_EVERY:
-                now[self.topics.counters] = json.dumps(self.requests.status.counters, separators=(",", ":"))
-        if health := self.health.take_due_text(self.topics.health in self.reported):
-            now[self.topics.health] = health
-        new = {topic: text for topic, text in now.items() if self.reported.get(topic) != text}
-        if self.topics.counters in new:
-            self.counted_at = self.clock()
-        self.publish([Message(topic, text, True) for topic, text in new.items()])
-        self.reported |= new
+            reports[self.topics.learn] = "OFF" if self.requests.status.mode == "closed" else "ON"
+            if (self.topics.counters not in self.gateway_reports
+                or self.clock() >= self.counters_sent_at + COUNTERS_EVERY):
+                reports[self.topics.counters] = json.dumps(self.requests.status.counters, separators=(",", ":"))
+        if health := self.health.take_due_text(self.topics.health in self.gateway_reports):
+            reports[self.topics.health] = health
+        changed_reports = {topic: text for topic, text in reports.items() if self.gateway_reports.get(topic) != text}
+        if self.topics.counters in changed_reports:
+            self.counters_sent_at = self.clock()
+        self.publish([Message(topic, text, True) for topic, text in changed_reports.items()])
+        self.gateway_reports |= changed_reports
 
     def note_acknowledged(self, connection: Connection) -> None:
         """Notes which lines and deletions the broker has acknowledged."""
-        self.outbox.drop_acknowledged(connection.unacknowledged)
-        done = {topic for topic, number in self.deleting.items() if number not in connection.unacknowledged}
-        for topic in done:
-            del self.deleting[topic]
-        self.devices.removed -= done
+        self.outbox.drop_acknowledged(connection.unacknowledged_numbers)
+        deleted_topics = {topic
+                          for topic, number in self.deletion_numbers.items()
+                          if number not in connection.unacknowledged_numbers}
+        for topic in deleted_topics:
+            del self.deletion_numbers[topic]
+        self.devices.removed_topics -= deleted_topics
 
     def save(self) -> None:
         """Saves the state if it has changed: how far the broker has acknowledged the lines, the devices, and the end of
@@ -427,10 +436,13 @@ class Bridge:
             return
         position = self.outbox.acknowledged_position(self.follower.position)
         self.saved_at = self.clock()
-        changed, removed, may_adopt = self.devices.changed, self.devices.removed, self.devices.may_adopt
-        learn_until = self.requests.window.end if self.requests.window else None
-        now = position, removed, may_adopt, learn_until
-        if not changed and now == (self.saved, self.store.removed, self.store.may_adopt, self.store.learn_until):
+        changed_devices = self.devices.changed_devices
+        removed_topics, may_adopt = self.devices.removed_topics, self.devices.may_adopt
+        learn_until = self.requests.window.time_of_day if self.requests.window else None
+        now = position, removed_topics, may_adopt, learn_until
+        if not changed_devices and now == (self.saved_state, self.store.removed_topics, self.store.may_adopt,
+                                           self.store.learn_until):
             return
-        if self.store.save(position, changed, self.devices.known, removed, may_adopt, learn_until):
-            self.saved, self.devices.changed = position, set()
+        if self.store.save(position, changed_devices, self.devices.known_devices, removed_topics, may_adopt,
+                           learn_until):
+            self.saved_state, self.devices.changed_devices = position, set()

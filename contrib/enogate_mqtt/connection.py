@@ -69,16 +69,16 @@ class Connection:
         self.is_open, self.refusal, self.missing_right = False, "", ""
         self.is_unsupported = self.is_taken_over = False
         # why a message could not be sent, and the last exception of a callback
-        self.failure = ""
-        self.fault: Exception | None = None
-        self.received: list[ReceivedMessage] = []
+        self.send_error = ""
+        self.callback_error: Exception | None = None
+        self.received_messages: list[ReceivedMessage] = []
         # the numbers of messages, and of requests for (un)subscription, that the broker has not acknowledged
-        self.unacknowledged: set[int] = set()
-        self.unanswered: set[int] = set()
+        self.unacknowledged_numbers: set[int] = set()
+        self.unanswered_numbers: set[int] = set()
         self.orders_request = -1
         # how many answers and messages have arrived
-        self.arrived = 0
-        self.began = self.acknowledged_at = clock()
+        self.arrived_count = 0
+        self.began_at = self.acknowledged_at = clock()
         self.client = self.make_client(login)
         try:
             self.client.connect(login.host, login.port, KEEPALIVE, **self.connect_options())
@@ -104,11 +104,14 @@ class Connection:
             client.will_set(self.topics.status, "offline", qos=1, retain=True)
         noting = self.with_noted_error
         client.on_connect = noting(lambda client, _data, _flags, code, *_: self.on_connect(client, code))
-        client.on_disconnect = noting(lambda _client, _data, *rest: self.on_disconnect(rest))
+        client.on_disconnect = noting(lambda _client, _data, *arguments: self.on_disconnect(arguments))
         client.on_message = noting(lambda _client, _data, message: self.on_message(message))
-        client.on_publish = noting(lambda _c, _data, number, *_: self.on_answer(self.unacknowledged, number))
-        client.on_subscribe = noting(lambda _c, _data, number, codes, *_: self.on_subscribe(number, codes))
-        client.on_unsubscribe = noting(lambda _c, _data, number, *_: self.on_answer(self.unanswered, number))
+        client.on_publish = noting(lambda _c, _data, request_number, *_: self.on_answer(self.unacknowledged_numbers,
+                                                                                        request_number))
+        client.on_subscribe = noting(lambda _c, _data, request_number, codes, *_: self.on_subscribe(request_number,
+                                                                                                    codes))
+        client.on_unsubscribe = noting(lambda _c, _data, request_number, *_: self.on_answer(self.unanswered_numbers,
+                                                                                            request_number))
         return client
 
     def with_noted_error(self, callback: Callable[..., None]) -> Callable[..., None]:
@@ -117,7 +120,7 @@ class Connection:
             try:
                 callback(*arguments)
             except Exception as error:
-                self.fault = error
+                self.callback_error = error
                 raise
         return call
 
@@ -141,17 +144,17 @@ class Connection:
         text = self.paho.connack_string(code) if isinstance(code, int) else str(code)
         self.refusal = f"rejected by the broker: {text}"
 
-    def on_disconnect(self, rest: tuple[Any, ...]) -> None:
+    def on_disconnect(self, arguments: tuple[Any, ...]) -> None:
         """The reason code is the first argument, or the second one after the flags of paho 2."""
-        self.is_taken_over = any(code_number(code) == 142 for code in rest)
+        self.is_taken_over = any(code_number(code) == 142 for code in arguments)
 
-    def on_answer(self, numbers: set[int], number: int) -> None:
-        numbers.discard(number)
+    def on_answer(self, pending_numbers: set[int], number: int) -> None:
+        pending_numbers.discard(number)
         self.acknowledged_at = self.clock()
-        self.arrived += 1
+        self.arrived_count += 1
 
     def on_subscribe(self, number: int, codes: Any) -> None:
-        self.on_answer(self.unanswered, number)
+        self.on_answer(self.unanswered_numbers, number)
         if number == self.orders_request:
             if any(code_number(code) >= FIRST_REFUSAL_CODE for code in codes[:len(self.topics.command_filters)]):
                 self.missing_right = ", but this user may not subscribe to orders"
@@ -162,31 +165,31 @@ class Connection:
             topic = message.topic
         except UnicodeDecodeError:
             return
-        self.received.append(ReceivedMessage(topic, message.payload, bool(message.retain)))
-        self.arrived += 1
+        self.received_messages.append(ReceivedMessage(topic, message.payload, bool(message.retain)))
+        self.arrived_count += 1
 
     def sockets(self) -> tuple[list[Any], list[Any]]:
         """What is to be waited for: the socket to be readable, and to be writable, if something could not be sent."""
         socket = self.client.socket()
-        there = [socket] if socket and socket.fileno() >= 0 else []
-        return there, there if self.client.want_write() else []
+        open_sockets = [socket] if socket and socket.fileno() >= 0 else []
+        return open_sockets, open_sockets if self.client.want_write() else []
 
     def has_work(self) -> bool:
         """Whether there is something to do without a wait: the connection is lost, or TLS has decrypted more."""
         socket = self.client.socket()
-        return bool(self.failure) or not self.sockets()[0] or hasattr(socket, "pending") and socket.pending() > 0
+        return bool(self.send_error) or not self.sockets()[0] or hasattr(socket, "pending") and socket.pending() > 0
 
     def turn(self, seconds: float) -> None:
         """Does the network's work: waits for at most so many seconds, and handles what has arrived. Or raises
         ConnectionLost."""
-        if self.failure:
-            raise ConnectionLost(self.failure)
-        before, status = self.arrived, self.run_loop(self.client.loop, seconds)
+        if self.send_error:
+            raise ConnectionLost(self.send_error)
+        arrived_before, status = self.arrived_count, self.run_loop(self.client.loop, seconds)
         for _ in range(MAX_LOOPS - 1):
-            if status != 0 or self.arrived == before:
+            if status != 0 or self.arrived_count == arrived_before:
                 break
             # without a system call that asks whether there is anything to read
-            before, status = self.arrived, self.run_loop(self.client.loop_read)
+            arrived_before, status = self.arrived_count, self.run_loop(self.client.loop_read)
         if self.is_unsupported:
             raise WrongProtocol(self.refusal)
         if self.refusal:
@@ -198,9 +201,9 @@ class Connection:
                 f"broker or network closed the connection; perhaps another client has the name {self.name}")
         if status != 0:
             raise ConnectionLost(self.paho.error_string(status))
-        if not self.is_open and self.clock() > self.began + OPEN_WITHIN:
+        if not self.is_open and self.clock() > self.began_at + OPEN_WITHIN:
             raise ConnectionLost("no answer from the broker")
-        if self.unacknowledged and self.clock() > self.acknowledged_at + ACKNOWLEDGE_WITHIN:
+        if self.unacknowledged_numbers and self.clock() > self.acknowledged_at + ACKNOWLEDGE_WITHIN:
             raise ConnectionLost("the broker acknowledges nothing")
 
     def run_loop(self, loop: Callable[..., Any], *arguments: Any) -> int:
@@ -210,7 +213,7 @@ class Connection:
         try:
             return int(loop(*arguments))
         except Exception as error:
-            if error is self.fault:
+            if error is self.callback_error:
                 raise
             if isinstance(error, OSError):
                 raise ConnectionLost(error_text(error)[:SHOWN_OF_AN_ERROR]) from error
@@ -220,17 +223,17 @@ class Connection:
     def publish(self, message: Message) -> int:
         """Publishes a message. Its number is in `unacknowledged` until it is acknowledged. If it cannot be sent, the
         next turn raises ConnectionLost."""
-        if not self.unacknowledged:
+        if not self.unacknowledged_numbers:
             self.acknowledged_at = self.clock()
-        number = NOT_SENT
-        if not self.failure:
+        message_number = NOT_SENT
+        if not self.send_error:
             try:
                 options = {"qos": 1, "retain": message.retained, **self.publish_options(message)}
-                number = int(send_or_lose(self.client.publish, message.topic, message.payload, **options).mid)
+                message_number = int(send_or_lose(self.client.publish, message.topic, message.payload, **options).mid)
             except ConnectionLost as lost:
-                self.failure = str(lost)
-        self.unacknowledged.add(number)
-        return number
+                self.send_error = str(lost)
+        self.unacknowledged_numbers.add(message_number)
+        return message_number
 
     def publish_options(self, message: Message) -> dict[str, Any]:
         """With MQTT 5, the user properties of a message."""
@@ -252,14 +255,14 @@ class Connection:
         """Notes a request that paho has sent, or raises ConnectionLost if it could not."""
         if status != 0 or number is None:
             raise ConnectionLost(self.paho.error_string(status))
-        self.unanswered.add(number)
+        self.unanswered_numbers.add(number)
         return number
 
     def end(self, seconds: float) -> None:
         """Disconnects after all messages are acknowledged, or after so many seconds."""
         until = self.clock() + seconds
         try:
-            while self.unacknowledged and self.clock() < until:
+            while self.unacknowledged_numbers and self.clock() < until:
                 self.turn(0.1)
             send_or_lose(self.client.disconnect)
         except ConnectionLost:
@@ -272,19 +275,19 @@ class Connection:
                 self.client.socket().close()
 
 
-def send_or_lose(call: Callable[..., Any], *arguments: Any, **named: Any) -> Any:
+def send_or_lose(function: Callable[..., Any], *arguments: Any, **keywords: Any) -> Any:
     """The result of this call of paho, which sends something. Unlike other faults of the network, those of TLS are
     exceptions: they are ConnectionLost."""
     try:
-        return call(*arguments, **named)
+        return function(*arguments, **keywords)
     except OSError as error:
         raise ConnectionLost(error_text(error)[:SHOWN_OF_AN_ERROR]) from error
 
 
 def code_number(code: Any) -> int:
     """The number of a return code or reason code; -1 of anything else."""
-    value = getattr(code, "value", code)
-    return value if isinstance(value, int) else -1
+    number = getattr(code, "value", code)
+    return number if isinstance(number, int) else -1
 
 
 class Broker:
@@ -292,12 +295,12 @@ class Broker:
 
     def __init__(self, connect: Callable[[int, bool], Connection], name: str, clock: Callable[[], float],
                  fraction: Callable[[], float] = random.random):
-        self.connect, self.name, self.clock, self.fraction = connect, name, clock, fraction
+        self.connect, self.name, self.clock, self.random_fraction = connect, name, clock, fraction
         self.connection: Connection | None = None
         self.pause, self.due, self.version = FIRST_PAUSE, 0.0, 5
         # the reasons that were logged since the last connection
         self.reasons: set[str] = set()
-        self.short = 0
+        self.short_connections = 0
 
     def turn(self) -> bool:
         """Connects if this is due, or handles what has arrived. Returns whether a connection was opened."""
@@ -337,19 +340,19 @@ class Broker:
             self.lose(str(lost))
             return None
 
-    def lose(self, why: str) -> None:
+    def lose(self, reason: str) -> None:
         """Drops the connection, and schedules the next attempt after a pause, which grows."""
         if self.connection and self.connection.is_open:
-            lasted = self.clock() - self.connection.began
-            self.pause = FIRST_PAUSE if lasted > MAX_PAUSE else self.pause
-            self.short = self.short + 1 if lasted < SHORT_CONNECTION else 0
-            if self.short == OFTEN_SHORT:
+            duration = self.clock() - self.connection.began_at
+            self.pause = FIRST_PAUSE if duration > MAX_PAUSE else self.pause
+            self.short_connections = self.short_connections + 1 if duration < SHORT_CONNECTION else 0
+            if self.short_connections == OFTEN_SHORT:
                 logging.warning("the connection is lost again and again: is there another bridge with this name?")
         self.close_connection()
-        if why not in self.reasons:
-            logging.warning("no connection to %s: %s", self.name, why)
-            self.reasons.add(why)
-        self.due = self.clock() + self.pause * (0.5 + self.fraction() / 2)
+        if reason not in self.reasons:
+            logging.warning("no connection to %s: %s", self.name, reason)
+            self.reasons.add(reason)
+        self.due = self.clock() + self.pause * (0.5 + self.random_fraction() / 2)
         self.pause = min(2 * self.pause, MAX_PAUSE)
 
     def close_connection(self) -> None:

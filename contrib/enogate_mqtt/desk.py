@@ -46,40 +46,40 @@ class PendingRequests:
     def __init__(self, clock: Callable[[], float]):
         self.clock = clock
         # by order: when each was given, and whether by the bridge itself; the gateway answers them in this sequence
-        self.given: dict[bytes, deque[tuple[float, bool]]] = {
+        self.times_by_request: dict[bytes, deque[tuple[float, bool]]] = {
             order: deque(maxlen=MAX_PENDING_REQUESTS) for order in (LIST_ORDER, STATUS_ORDER)}
 
     def without_pending(self, orders: bytes) -> list[bytes]:
         """The lines of these orders of others, without those for which an earlier one waits."""
-        kept = []
-        waiting = {order for order in self.given if self.is_pending(order)}
+        lines_left = []
+        waiting = {order for order in self.times_by_request if self.is_pending(order)}
         for line in orders.split(b"\n")[:-1]:
             if line not in waiting:
-                kept.append(line)
-            if line in self.given:
+                lines_left.append(line)
+            if line in self.times_by_request:
                 waiting.add(line)
-        return kept
+        return lines_left
 
     def is_pending(self, order: bytes) -> bool:
         """Whether an order of others is not answered yet."""
-        given = self.given[order]
-        while given and self.clock() > given[0][0] + ANSWER_WITHIN:
-            given.popleft()
-        return any(not is_own for _, is_own in given)
+        pending = self.times_by_request[order]
+        while pending and self.clock() > pending[0][0] + ANSWER_WITHIN:
+            pending.popleft()
+        return any(not is_own for _, is_own in pending)
 
     def add(self, orders: bytes, is_own: bool) -> None:
         for line in orders.split(b"\n"):
-            if line in self.given:
-                self.given[line].append((self.clock(), is_own))
+            if line in self.times_by_request:
+                self.times_by_request[line].append((self.clock(), is_own))
 
     def note_answer(self, order: bytes) -> None:
-        if self.given[order]:
-            self.given[order].popleft()
+        if self.times_by_request[order]:
+            self.times_by_request[order].popleft()
 
     def clear(self) -> None:
         """A gateway that was started answers none of them."""
-        for given in self.given.values():
-            given.clear()
+        for pending in self.times_by_request.values():
+            pending.clear()
 
 
 class PendingOrders:
@@ -111,10 +111,10 @@ class PendingOrders:
             case Deleted():
                 self.end_first(lambda order: order.startswith(b"remove "))
 
-    def end_through(self, answered: bytes) -> None:
+    def end_through(self, answered_order: bytes) -> None:
         """This order and all before it are answered."""
-        if any(order == answered for order, _ in self.orders):
-            while self.orders.popleft()[0] != answered:
+        if any(order == answered_order for order, _ in self.orders):
+            while self.orders.popleft()[0] != answered_order:
                 pass
 
     def end_first(self, can_be: Callable[[bytes], bool]) -> None:
@@ -125,10 +125,10 @@ class PendingOrders:
     def clear(self) -> list[bytes]:
         """A gateway that was started answers none of them. Returns those of others that are lost. The bridge then gives
         `list`, `status` and `base` by itself."""
-        own = LIST_ORDER, STATUS_ORDER, BASE_ORDER
-        lost = [order for order, is_of_others in self.orders if is_of_others and order not in own]
+        bridge_requests = LIST_ORDER, STATUS_ORDER, BASE_ORDER
+        lost_orders = [order for order, is_of_others in self.orders if is_of_others and order not in bridge_requests]
         self.orders.clear()
-        return lost
+        return lost_orders
 
 
 class Desk:
@@ -136,20 +136,20 @@ class Desk:
 
     def __init__(self, path: str, clock: Callable[[], float]):
         self.path, self.clock = path, clock
-        self.unanswered, self.given = PendingRequests(clock), PendingOrders()
+        self.pending_requests, self.pending_orders = PendingRequests(clock), PendingOrders()
         # what has changed since the last question for news, and the orders that were lost by that
-        self.change, self.lost = DeskChange.NONE, list[bytes]()
+        self.change, self.lost_orders = DeskChange.NONE, list[bytes]()
         # which file was checked, up to which offset, and the last bytes before that; and its size after an order
-        self.inode, self.seen = self.inode_and_size()
+        self.inode, self.checked_size = self.inode_and_size()
         self.size = 0
-        self.last = b"\n"
-        self.allowance, self.allowed_at = float(MAX_BURST), clock()
+        self.last_bytes = b"\n"
+        self.allowance, self.allowance_time = float(MAX_BURST), clock()
 
     def give(self, orders: bytes, devices: int) -> int:
         """Appends these orders of others to a gateway with so many devices, or raises OSError. A `list` or `status` is
         left out while an earlier one is not answered. Returns how many orders were left out."""
         self.note_replacement()
-        lines = self.unanswered.without_pending(orders)
+        lines = self.pending_requests.without_pending(orders)
         if lines:
             # the end that the last line of the longest message got does not count
             cost = sum(len(line) + 1 for line in lines) + lines.count(LIST_ORDER) * devices * COST_OF_LISTED_DEVICE
@@ -173,16 +173,16 @@ class Desk:
             if not write_orders(file, text):
                 raise OSError("incomplete write")
             self.size = size + len(text)
-            self.unanswered.add(orders, is_own=cost is None)
-            self.given.add(orders, is_own=cost is None)
+            self.pending_requests.add(orders, is_own=cost is None)
+            self.pending_orders.add(orders, is_own=cost is None)
         finally:
             os.close(file)
 
     def charge_allowance(self, cost: int) -> None:
         """Accounts for a cost in bytes, or raises OSError if too much was appended in a short time."""
         now = self.clock()
-        self.allowance = min(MAX_BURST, self.allowance + (now - self.allowed_at) * BYTES_PER_SECOND)
-        self.allowed_at = now
+        self.allowance = min(MAX_BURST, self.allowance + (now - self.allowance_time) * BYTES_PER_SECOND)
+        self.allowance_time = now
         if cost > self.allowance:
             raise OSError("too many orders in a short time")
         self.allowance -= cost
@@ -193,25 +193,25 @@ class Desk:
 
     def handle_line(self, content: Content) -> None:
         """Handles a line of the gateway."""
-        self.given.handle_line(content)
+        self.pending_orders.handle_line(content)
         match content:
             case Status():
-                self.unanswered.note_answer(STATUS_ORDER)
+                self.pending_requests.note_answer(STATUS_ORDER)
             case EndOfList():
-                self.unanswered.note_answer(LIST_ORDER)
+                self.pending_requests.note_answer(LIST_ORDER)
 
     def note_replacement(self) -> int:
         """Notes whether this is another desk, or one that was emptied: its gateway answers no earlier order. Returns
         its size."""
         inode, size = self.inode_and_size()
-        before = self.inode
-        if inode != before or size < max(self.seen, self.size):
-            self.inode, self.seen, self.size, self.last = inode, 0, 0, b"\n"
-            self.unanswered.clear()
-            self.lost += self.given.clear()
+        inode_before = self.inode
+        if inode != inode_before or size < max(self.checked_size, self.size):
+            self.inode, self.checked_size, self.size, self.last_bytes = inode, 0, 0, b"\n"
+            self.pending_requests.clear()
+            self.lost_orders += self.pending_orders.clear()
             if inode != 0:
-                is_same, replaced = inode == before, DeskChange.REPLACED if before else DeskChange.CREATED
-                self.change = DeskChange.TRUNCATED if is_same else replaced
+                is_same, change = inode == inode_before, DeskChange.REPLACED if inode_before else DeskChange.CREATED
+                self.change = DeskChange.TRUNCATED if is_same else change
         return size
 
     def appended_orders(self, start: bytes) -> set[bytes]:
@@ -220,12 +220,12 @@ class Desk:
         inode, size = self.inode_and_size()
         # opening a pipe that nobody writes would block
         text = self.read(0, min(size, MAX_SIZE)) if inode else b""
-        return {found[0] for found in re.finditer(rb"^%s.*(?=\n)" % re.escape(start), text, re.MULTILINE)}
+        return {match[0] for match in re.finditer(rb"^%s.*(?=\n)" % re.escape(start), text, re.MULTILINE)}
 
     def take_lost_orders(self) -> list[bytes]:
         """The orders of others that were lost since the last call."""
-        lost, self.lost = self.lost, []
-        return lost
+        lost_orders, self.lost_orders = self.lost_orders, []
+        return lost_orders
 
     def take_change(self) -> DeskChange:
         """What changed since the last call."""
@@ -234,10 +234,10 @@ class Desk:
         if change is not DeskChange.NONE or self.inode == 0:
             # opening a pipe that nobody writes would block
             return change
-        added = self.last + self.read(self.seen, min(size - self.seen, MAX_LOOK))
-        self.seen += len(added) - len(self.last)
-        self.last = added[1 - len(LABEL_START):]
-        return DeskChange.LABELLED if LABEL_START in added else DeskChange.NONE
+        text = self.last_bytes + self.read(self.checked_size, min(size - self.checked_size, MAX_LOOK))
+        self.checked_size += len(text) - len(self.last_bytes)
+        self.last_bytes = text[1 - len(LABEL_START):]
+        return DeskChange.LABELLED if LABEL_START in text else DeskChange.NONE
 
     def read(self, offset: int, length: int) -> bytes:
         """This part of the file, or nothing if it cannot be read."""
@@ -251,7 +251,7 @@ class Desk:
     def inode_and_size(self) -> tuple[int, int]:
         """The inode and the size of the file; both are 0 if there is none, or if it is a terminal or a pipe."""
         try:
-            found = os.stat(self.path)
+            status = os.stat(self.path)
         except OSError:
             return 0, 0
-        return (found.st_ino, found.st_size) if stat.S_ISREG(found.st_mode) else (0, 0)
+        return (status.st_ino, status.st_size) if stat.S_ISREG(status.st_mode) else (0, 0)

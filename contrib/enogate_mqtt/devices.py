@@ -19,13 +19,13 @@ from .topics import Message, Topics
 @dataclass
 class Device:
     """A device. Its label is None until it is known that it has one or none; until then, Home Assistant is not shown
-    the device. `reported` has its last readings, by their subtopics. Its entities in Home Assistant have IDs with
+    the device. `last_readings` has its readings, by their subtopics. Its entities in Home Assistant have IDs with
     `identity`: its own ID or, if it has replaced another device, that of the other one."""
     name: str
     eep: str
     label: str | None = None
     maker: int | None = None
-    reported: dict[str, str] = field(default_factory=dict)
+    last_readings: dict[str, str] = field(default_factory=dict)
     identity: str = ""
 
     def __post_init__(self) -> None:
@@ -39,50 +39,53 @@ class Devices:
     that is deleted is shown until the next list: if another one has its label then, that one replaces it, and keeps its
     entities."""
 
-    def __init__(self, topics: Topics, table: Table, expire_after: int | None = None, known: Iterable[Device] = (),
-                 removed: Iterable[str] = (), may_adopt: bool = False, label_wait: int = 0,
+    def __init__(self, topics: Topics, table: Table, expire_after: int | None = None,
+                 known_devices: Iterable[Device] = (),
+                 removed_topics: Iterable[str] = (), may_adopt: bool = False, label_wait: int = 0,
                  clock: Callable[[], float] = time.monotonic):
         self.topics, self.table, self.expire_after = topics, table, expire_after
         self.label_wait, self.clock = label_wait, clock
         # the devices that wait before they are shown, each with the end of its wait
-        self.waiting: dict[str, float] = {}
-        self.known = {device.name: device for device in known}
-        self.shown = {device.name: self.discovery_configs(device) for device in self.known.values()}
+        self.wait_ends: dict[str, float] = {}
+        self.known_devices = {device.name: device for device in known_devices}
+        self.shown_configs = {device.name: self.discovery_configs(device) for device in self.known_devices.values()}
         # the topics whose retained messages are to be deleted
-        self.removed = set(removed)
+        self.removed_topics = set(removed_topics)
         # the devices that changed since this was emptied
-        self.changed: set[str] = set()
+        self.changed_devices: set[str] = set()
         # how many complete lists have arrived, and whether another one is needed
-        self.lists = 0
+        self.list_count = 0
         self.needs_list = False
         # the devices of a list that has not ended
-        self.listing: list[str] = []
+        self.listed_devices: list[str] = []
         # without a state file, the readings that the broker retains are adopted for devices that only a list reported
-        self.adopting = {name for name, device in self.known.items() if may_adopt and not device.reported}
+        self.adopting_devices = {name for name, device in self.known_devices.items() if may_adopt
+                                 and not device.last_readings}
         self.may_adopt = may_adopt
 
     def retained_messages(self, device: str) -> dict[str, str]:
         """Everything that the broker should retain about a device, by topic."""
-        reported = self.known[device].reported
-        return self.shown[device] | {self.topics.reading(device, subtopic): text for subtopic, text in reported.items()}
+        texts_by_subtopic = self.known_devices[device].last_readings
+        return self.shown_configs[device] | {self.topics.reading(device, subtopic): text
+                                             for subtopic, text in texts_by_subtopic.items()}
 
     def is_shown_on(self, topic: str) -> bool:
         """Whether a device is shown by a discovery message on this topic, which may have been that of another device
         when the broker was asked for it."""
-        return any(topic in configs for configs in self.shown.values())
+        return any(topic in configs for configs in self.shown_configs.values())
 
     def adopt_reading(self, topic: str, text: str) -> bool:
         """Takes a reading that the broker retains as the last one of its device: the state file was lost, or another
         bridge ran before. Returns whether it was taken."""
         name, _, subtopic = topic.removeprefix(self.topics.root + "/").partition("/")
-        if name not in self.adopting:
+        if name not in self.adopting_devices:
             return False
-        device = self.known[name]
+        device = self.known_devices[name]
         is_possible = subtopic == LAST_SEEN_SUBTOPIC or self.table.may_report(device.eep, subtopic)
-        if subtopic in device.reported or not is_possible:
+        if subtopic in device.last_readings or not is_possible:
             return False
-        device.reported[subtopic] = text
-        self.changed.add(name)
+        device.last_readings[subtopic] = text
+        self.changed_devices.add(name)
         return True
 
     def handle_line(self, content: Content, now: float | None = None) -> list[Message]:
@@ -90,19 +93,19 @@ class Devices:
         if it is known."""
         match content:
             case Listed():
-                self.listing.append(content.device)
-                if content.device not in self.known and self.may_adopt:
-                    self.adopting.add(content.device)
-                label = content.label or (None if content.device in self.waiting else "")
+                self.listed_devices.append(content.device)
+                if content.device not in self.known_devices and self.may_adopt:
+                    self.adopting_devices.add(content.device)
+                label = content.label or (None if content.device in self.wait_ends else "")
                 return self.learn(content.device, content.eep, content.maker, label)
             case EndOfList():
                 return self.end_list(content.count)
-        self.listing = []
+        self.listed_devices = []
         match content:
             case Telegram():
                 return self.handle_telegram(content, now)
             case Learned():
-                self.adopting.discard(content.device)
+                self.adopting_devices.discard(content.device)
                 label = self.label_of(content.device, now)
                 return self.learn(content.device, content.eep, content.maker, label)
             case Deleted():
@@ -111,118 +114,122 @@ class Devices:
 
     def drop_listing(self) -> None:
         """Drops the current list: an invalid line may have been part of it."""
-        self.listing = []
+        self.listed_devices = []
 
     def end_list(self, count: int) -> list[Message]:
         """Forgets the devices that a complete list does not contain."""
-        listing, self.listing = self.listing, []
+        listing, self.listed_devices = self.listed_devices, []
         if len(listing) != count:
             self.needs_list = True
             return []
-        self.lists += 1
-        gone = [self.known.pop(name) for name in sorted(self.known.keys() - set(listing))]
-        return [message for device in gone for message in self.forget(device)]
+        self.list_count += 1
+        gone_devices = [self.known_devices.pop(name) for name in sorted(self.known_devices.keys() - set(listing))]
+        return [message for device in gone_devices for message in self.forget(device)]
 
     def label_of(self, name: str, now: float | None) -> str | None:
         """The label of a device that is taught in or added: it keeps the one that it had. A new device waits for one.
         If this happened at an unknown time, the next list says which label it has got since then."""
-        label = self.known[name].label if name in self.known else None
+        label = self.known_devices[name].label if name in self.known_devices else None
         if label is None and not self.label_wait:
             return ""
         if label is None and now is None:
             self.needs_list = True
         elif label is None:
-            self.waiting.setdefault(name, self.clock() + self.label_wait)
+            self.wait_ends.setdefault(name, self.clock() + self.label_wait)
         return label
 
     def device_of(self, name: str, eep: str) -> Device:
         """The device with this ID, which may be new. If another one has its identity, because it has replaced it, it
         gets a new one."""
-        if name not in self.known:
-            taken = {device.identity for device in self.known.values()}
-            identities = itertools.chain([name], (f"{name}_{number}" for number in itertools.count(2)))
-            self.known[name] = Device(name, eep, identity=next(one for one in identities if one not in taken))
-        return self.known[name]
+        if name not in self.known_devices:
+            taken_identities = {device.identity for device in self.known_devices.values()}
+            possible_identities = itertools.chain([name], (f"{name}_{number}" for number in itertools.count(2)))
+            self.known_devices[name] = Device(name, eep, identity=next(identity for identity in possible_identities
+                                                                       if identity not in taken_identities))
+        return self.known_devices[name]
 
     def learn(self, name: str, eep: str, maker: int | None, label: str | None) -> list[Message]:
         """A device is learned, with this label, or None if it is not known yet."""
         device = self.device_of(name, eep)
-        if name in self.shown and (device.eep, device.maker, device.label) == (eep, maker, label):
+        if name in self.shown_configs and (device.eep, device.maker, device.label) == (eep, maker, label):
             # a list repeats what is known, and the discovery messages of 1,000 devices take seconds
             return []
         messages = self.set_profile(device, eep)
         device.maker, device.label = maker, label
         if label is not None:
-            self.waiting.pop(name, None)
-            if label and self.label_wait and not self.shown.get(name) and self.with_label(label, name):
-                self.waiting[name] = self.clock() + self.label_wait
+            self.wait_ends.pop(name, None)
+            if label and self.label_wait and not self.shown_configs.get(name) and self.with_label(label, name):
+                self.wait_ends[name] = self.clock() + self.label_wait
         return messages + self.update_discovery(device)
 
     def with_label(self, label: str, name: str) -> list[Device]:
         """The other devices with this label."""
-        return [device for device in self.known.values() if device.label == label and device.name != name]
+        return [device for device in self.known_devices.values() if device.label == label and device.name != name]
 
     def end_label_waits(self) -> list[Message]:
         """Shows the devices that have waited for long enough."""
-        due = [self.known[name] for name, end in self.waiting.items() if self.clock() >= end]
+        due = [self.known_devices[name] for name, wait_end in self.wait_ends.items() if self.clock() >= wait_end]
         for device in due:
-            del self.waiting[device.name]
+            del self.wait_ends[device.name]
             device.label = device.label or ""
         return [message for device in due for message in self.update_discovery(device)]
 
     def delete(self, name: str) -> list[Message]:
         """A device is deleted. If it has a label, the next list shows whether another one replaces it."""
-        device = self.known.get(name)
+        device = self.known_devices.get(name)
         if device and device.label:
             self.needs_list = True
-            self.changed.add(name)
+            self.changed_devices.add(name)
             return self.remove_readings(device)
-        return self.forget(self.known.pop(name)) if device else []
+        return self.forget(self.known_devices.pop(name)) if device else []
 
-    def forget(self, gone: Device) -> list[Message]:
+    def forget(self, device: Device) -> list[Message]:
         """Removes everything that is retained about a device that is not learned any more. Its entities remain if
         another device replaces it."""
-        self.adopting.discard(gone.name)
-        self.waiting.pop(gone.name, None)
-        self.changed.add(gone.name)
-        shown, heir = self.shown.pop(gone.name, {}), self.heir_of(gone)
-        messages = self.remove_readings(gone)
+        self.adopting_devices.discard(device.name)
+        self.wait_ends.pop(device.name, None)
+        self.changed_devices.add(device.name)
+        discovery_topics, heir = self.shown_configs.pop(device.name, {}), self.heir_of(device)
+        messages = self.remove_readings(device)
         if heir is None:
-            return messages + self.delete_retained(shown)
-        heir.identity = gone.identity
-        self.waiting.pop(heir.name, None)
-        self.shown[heir.name] = self.shown.get(heir.name, {}) | shown
+            return messages + self.delete_retained(discovery_topics)
+        heir.identity = device.identity
+        self.wait_ends.pop(heir.name, None)
+        self.shown_configs[heir.name] = self.shown_configs.get(heir.name, {}) | discovery_topics
         return messages + self.update_discovery(heir)
 
-    def heir_of(self, gone: Device) -> Device | None:
+    def heir_of(self, device: Device) -> Device | None:
         """The device that replaces another one: the only one with its label, if it also has its profile or was not
         shown yet."""
-        found = self.with_label(gone.label, gone.name) if gone.label else []
-        fits = len(found) == 1 and (found[0].eep == gone.eep or not self.shown.get(found[0].name))
-        return found[0] if fits else None
+        candidates = self.with_label(device.label, device.name) if device.label else []
+        is_heir = len(candidates) == 1 and (candidates[0].eep == device.eep
+                                            or not self.shown_configs.get(candidates[0].name))
+        return candidates[0] if is_heir else None
 
     def handle_telegram(self, telegram: Telegram, now: float | None) -> list[Message]:
         """Handles a telegram. If its device is unknown or has another profile, lines were missed: a list is needed."""
         device = self.device_of(telegram.device, telegram.eep)
-        is_unknown = device.label is None and device.name not in self.waiting
+        is_unknown = device.label is None and device.name not in self.wait_ends
         self.needs_list |= is_unknown or device.eep != telegram.eep
         messages = self.set_profile(device, telegram.eep)
-        reported = self.table.readings_by_subtopic(telegram)
+        texts_by_subtopic = self.table.readings_by_subtopic(telegram)
         events = self.table.events_of(telegram)
         if self.has_events(telegram.eep):
             # a rocker that is not pressed any more is not retained as pressed
-            old = [subtopic for subtopic in device.reported
-                   if subtopic not in reported and subtopic not in ("dbm", LAST_SEEN_SUBTOPIC)]
-            messages += self.delete_retained(self.topics.reading(device.name, subtopic) for subtopic in old)
-            device.reported = {subtopic: text for subtopic, text in device.reported.items() if subtopic not in old}
+            earlier_events = [subtopic for subtopic in device.last_readings
+                              if subtopic not in texts_by_subtopic and subtopic not in ("dbm", LAST_SEEN_SUBTOPIC)]
+            messages += self.delete_retained(self.topics.reading(device.name, subtopic) for subtopic in earlier_events)
+            device.last_readings = {subtopic: text
+                                    for subtopic, text in device.last_readings.items()
+                                    if subtopic not in earlier_events}
         if now is not None:
-            reported[LAST_SEEN_SUBTOPIC] = time_text(now)
-        is_new = not reported.keys() <= device.reported.keys()
-        device.reported |= reported
-        self.changed.add(device.name)
+            texts_by_subtopic[LAST_SEEN_SUBTOPIC] = time_text(now)
+        is_new = not texts_by_subtopic.keys() <= device.last_readings.keys()
+        device.last_readings |= texts_by_subtopic
+        self.changed_devices.add(device.name)
         messages += self.update_discovery(device) if is_new else []
         messages += self.publish_retained({self.topics.reading(device.name, subtopic): text
-                                           for subtopic, text in reported.items()})
+                                           for subtopic, text in texts_by_subtopic.items()})
         return messages + [Message(self.topics.reading(device.name, subtopic), event_payload(kind), False)
                            for subtopic, kind in events]
 
@@ -235,43 +242,44 @@ class Devices:
         if device.eep == eep:
             return []
         device.eep = eep
-        self.adopting.discard(device.name)
+        self.adopting_devices.discard(device.name)
         return self.remove_readings(device)
 
     def remove_readings(self, device: Device) -> list[Message]:
         """Removes all readings of a device."""
-        topics = [self.topics.reading(device.name, subtopic) for subtopic in device.reported]
-        device.reported = {}
+        topics = [self.topics.reading(device.name, subtopic) for subtopic in device.last_readings]
+        device.last_readings = {}
         return self.delete_retained(topics)
 
     def update_discovery(self, device: Device) -> list[Message]:
         """The discovery messages for a device that changed."""
-        self.changed.add(device.name)
-        before, now = self.shown.get(device.name, {}), self.discovery_configs(device)
-        self.shown[device.name] = now
-        gone = self.delete_retained(topic for topic in before if topic not in now)
-        return gone + self.publish_retained({topic: text for topic, text in now.items() if before.get(topic) != text})
+        self.changed_devices.add(device.name)
+        configs_before, configs = self.shown_configs.get(device.name, {}), self.discovery_configs(device)
+        self.shown_configs[device.name] = configs
+        deletions = self.delete_retained(topic for topic in configs_before if topic not in configs)
+        return deletions + self.publish_retained({topic: text for topic, text in configs.items()
+                                                  if configs_before.get(topic) != text})
 
     def delete_retained(self, topics: Iterable[str]) -> list[Message]:
         """Deletes the retained messages on these topics, now or when the broker is connected again."""
         topics = list(topics)
-        self.removed.update(topics)
+        self.removed_topics.update(topics)
         return [Message(topic, "", True) for topic in topics]
 
     def publish_retained(self, texts: dict[str, str]) -> list[Message]:
         """Retained messages on these topics."""
-        self.removed.difference_update(texts)
+        self.removed_topics.difference_update(texts)
         return [Message(topic, text, True) for topic, text in texts.items()]
 
     def discovery_configs(self, device: Device) -> dict[str, str]:
         """The messages of Home Assistant's discovery, by topic. A device that no list has reported is not shown: it
         would get a wrong name."""
-        if device.label is None or device.name in self.waiting or not self.topics.discovery:
+        if device.label is None or device.name in self.wait_ends or not self.topics.discovery:
             return {}
         about = discovery.device_description(self.topics, device.name, device.identity, device.eep, device.label,
                                              device.maker)
         rows = self.table.rows_of_profile(device.eep).values()
-        return discovery.device_configs(self.topics, device.name, device.identity, about, rows, device.reported,
+        return discovery.device_configs(self.topics, device.name, device.identity, about, rows, device.last_readings,
                                         self.expire_after)
 
 

@@ -32,14 +32,14 @@ EVENT_TYPE_TEMPLATE = "{{ value_json.event_type }}"
 
 
 def device_configs(topics: Topics, device: str, identity: str, about: Config, rows: Iterable[EntityRow],
-                   reported: Collection[str], expire_after: int | None) -> dict[str, str]:
+                   subtopics: Collection[str], expire_after: int | None) -> dict[str, str]:
     """The messages of a device, by topic. The IDs of its entities have `identity`, `about` describes the device, and
     `reported` has the subtopics of its readings. A cyclic reading becomes unavailable some time after the last one:
     `expire_after` is the setting for it."""
-    entities = entities_of_rows(topics, device, identity, rows, reported, expire_after)
-    shared = {"device": about, **availability(topics.status, topics.gateway, topics.module)}
-    every = config_messages(topics, entities | entities_of_every_device(topics, device, identity), shared)
-    return every | trigger_configs(topics, about, entities)
+    entities = entities_of_rows(topics, device, identity, rows, subtopics, expire_after)
+    shared_config = {"device": about, **availability(topics.status, topics.gateway, topics.module)}
+    messages = config_messages(topics, entities | entities_of_every_device(topics, device, identity), shared_config)
+    return messages | trigger_configs(topics, about, entities)
 
 
 def gateway_configs(topics: Topics) -> dict[str, str]:
@@ -48,8 +48,8 @@ def gateway_configs(topics: Topics) -> dict[str, str]:
     about = {"identifiers": [identifier], "name": f"enogate {topics.name}", "model": "enogate", "sw_version": VERSION}
     # whether the bridge is connected is known even if it is not
     entities: Entities = {("binary_sensor", "status"): connectivity("Bridge", topics.status)}
-    for name, title, state in [("gateway", "Gateway", topics.gateway), ("module", "Radio module", topics.module)]:
-        entities["binary_sensor", name] = {**connectivity(title, state), **availability(topics.status)}
+    for name, title, state_topic in [("gateway", "Gateway", topics.gateway), ("module", "Radio module", topics.module)]:
+        entities["binary_sensor", name] = {**connectivity(title, state_topic), **availability(topics.status)}
     with_gateway = availability(topics.status, topics.gateway)
     for name, title in COUNTER_TITLES.items():
         entities["sensor", name] = {
@@ -88,11 +88,11 @@ def manufacturer_names() -> dict[int, str]:
     return {int(number, 16): name for number, name in (row.split("\t") for row in share.table_lines("manufacturers"))}
 
 
-def config_messages(topics: Topics, entities: Entities, shared: Config) -> dict[str, str]:
+def config_messages(topics: Topics, entities: Entities, shared_config: Config) -> dict[str, str]:
     """The messages of these entities, by topic. All of them contain `shared`."""
     return {
         topics.config(component, name): config_payload(
-            {**config, **shared, "unique_id": f"enogate_{topics.name}_{name}"})
+            {**config, **shared_config, "unique_id": f"enogate_{topics.name}_{name}"})
         for (component, name), config in entities.items()
     }
 
@@ -102,31 +102,31 @@ def config_payload(config: Config) -> str:
     return json.dumps(config, ensure_ascii=False, sort_keys=True, separators=(",", ":"))
 
 
-def availability(*states: str) -> Config:
+def availability(*state_topics: str) -> Config:
     """An entity is available while all these topics are `online`, the word that Home Assistant expects."""
-    return {"availability": [{"topic": topic} for topic in states], "availability_mode": "all"}
+    return {"availability": [{"topic": topic} for topic in state_topics], "availability_mode": "all"}
 
 
-def connectivity(title: str, state: str) -> Config:
-    return {"name": title, "state_topic": state, "payload_on": "online", "payload_off": "offline",
+def connectivity(title: str, state_topic: str) -> Config:
+    return {"name": title, "state_topic": state_topic, "payload_on": "online", "payload_off": "offline",
             "device_class": "connectivity", **visibility("diagnostic")}
 
 
-def entities_of_rows(topics: Topics, device: str, identity: str, rows: Iterable[EntityRow], reported: Collection[str],
+def entities_of_rows(topics: Topics, device: str, identity: str, rows: Iterable[EntityRow], subtopics: Collection[str],
                      expire_after: int | None) -> Entities:
     """The entities of a device according to the table. Rows with the same topic are one entity."""
-    found: Entities = {}
+    configs: Entities = {}
     for row in rows:
-        for number in row.entity_numbers(reported) if row.entity else []:
+        for number in row.entity_numbers(subtopics) if row.entity else []:
             key = row.entity, f"{identity}_{row.subtopic(number).replace('/', '_')}"
             config = entity_config(topics, device, row, number)
             seconds = row.expires_after(expire_after)
             if seconds is not None:
                 config["expire_after"] = seconds
-            if row.entity == "event" and key in found:
-                config["event_types"] = list(dict.fromkeys(found[key]["event_types"] + config["event_types"]))
-            found[key] = config
-    return found
+            if row.entity == "event" and key in configs:
+                config["event_types"] = list(dict.fromkeys(configs[key]["event_types"] + config["event_types"]))
+            configs[key] = config
+    return configs
 
 
 def entities_of_every_device(topics: Topics, device: str, identity: str) -> Entities:
@@ -146,15 +146,15 @@ def entities_of_every_device(topics: Topics, device: str, identity: str) -> Enti
 def trigger_configs(topics: Topics, about: Config, entities: Entities) -> dict[str, str]:
     """The messages of the device triggers, by topic: one for each type of an event. Home Assistant does not define an
     ID or an availability for them."""
-    found = {}
+    triggers = {}
     for (component, name), config in entities.items():
         for kind in config["event_types"] if component == "event" else []:
-            found[topics.config("device_automation", f"{name}_{kind}")] = config_payload({
+            triggers[topics.config("device_automation", f"{name}_{kind}")] = config_payload({
                 "automation_type": "trigger", "subtype": kind,
                 "type": "button_short_release" if kind == "released" else "button_short_press",
                 "topic": config["state_topic"], "value_template": EVENT_TYPE_TEMPLATE, "payload": kind, "device": about,
             })
-    return found
+    return triggers
 
 
 def entity_config(topics: Topics, device: str, row: EntityRow, number: int | None) -> Config:
@@ -174,8 +174,8 @@ def visibility(*words: str) -> Config:
     return {"entity_category": "diagnostic"} if "diagnostic" in words else {}
 
 
-def sensor_config(row: EntityRow, state: str, _command: str) -> Config:
-    config: Config = {"state_topic": state}
+def sensor_config(row: EntityRow, state_topic: str, _command: str) -> Config:
+    config: Config = {"state_topic": state_topic}
     if row.words("options"):
         config |= {"device_class": "enum", "options": row.words("options")}
     elif row.unit:
@@ -183,31 +183,31 @@ def sensor_config(row: EntityRow, state: str, _command: str) -> Config:
     return config
 
 
-def binary_sensor_config(_row: EntityRow, state: str, _command: str) -> Config:
-    return {"state_topic": state}
+def binary_sensor_config(_row: EntityRow, state_topic: str, _command: str) -> Config:
+    return {"state_topic": state_topic}
 
 
-def event_config(row: EntityRow, state: str, _command: str) -> Config:
-    return {"state_topic": state, "event_types": row.words("types")}
+def event_config(row: EntityRow, state_topic: str, _command: str) -> Config:
+    return {"state_topic": state_topic, "event_types": row.words("types")}
 
 
-def switch_config(_row: EntityRow, state: str, command: str) -> Config:
-    return {"state_topic": state, "value_template": ON_OFF_OR_NONE_TEMPLATE, "command_topic": command}
+def switch_config(_row: EntityRow, state_topic: str, command: str) -> Config:
+    return {"state_topic": state_topic, "value_template": ON_OFF_OR_NONE_TEMPLATE, "command_topic": command}
 
 
-def light_config(_row: EntityRow, state: str, command: str) -> Config:
+def light_config(_row: EntityRow, state_topic: str, command: str) -> Config:
     return {
-        "state_topic": state, "state_value_template": ON_OFF_OR_NONE_TEMPLATE, "command_topic": command,
-        "brightness_state_topic": state, "brightness_value_template": NUMBER_OR_NOTHING_TEMPLATE,
+        "state_topic": state_topic, "state_value_template": ON_OFF_OR_NONE_TEMPLATE, "command_topic": command,
+        "brightness_state_topic": state_topic, "brightness_value_template": NUMBER_OR_NOTHING_TEMPLATE,
         "brightness_command_topic": command, "brightness_scale": 100, "on_command_type": "brightness",
     }
 
 
-def cover_config(_row: EntityRow, state: str, command: str) -> Config:
+def cover_config(_row: EntityRow, state_topic: str, command: str) -> Config:
     """In the profile, 0 % is open and 100 % is closed."""
     return {
-        "state_topic": state, "value_template": OPEN_CLOSED_OR_NONE_TEMPLATE, "command_topic": command,
-        "position_topic": state, "position_template": NUMBER_OR_NOTHING_TEMPLATE, "set_position_topic": command,
+        "state_topic": state_topic, "value_template": OPEN_CLOSED_OR_NONE_TEMPLATE, "command_topic": command,
+        "position_topic": state_topic, "position_template": NUMBER_OR_NOTHING_TEMPLATE, "set_position_topic": command,
         "position_open": 0, "position_closed": 100,
     }
 

@@ -22,8 +22,9 @@ MAX_NAMED_DEVICES = 50
 class HealthReport:
     """What the message says. `base` is the base ID in the last answer of the radio module."""
 
-    def __init__(self, devices: Devices, requests: Requests, clock: Callable[[], float], wall: Callable[[], float]):
-        self.devices, self.requests, self.clock, self.wall = devices, requests, clock, wall
+    def __init__(self, devices: Devices, requests: Requests, clock: Callable[[], float],
+                 time_of_day: Callable[[], float]):
+        self.devices, self.requests, self.clock, self.time_of_day = devices, requests, clock, time_of_day
         self.base: str | None = None
         self.due = 0.0
 
@@ -36,7 +37,7 @@ class HealthReport:
     def take_due_text(self, is_published: bool) -> str | None:
         """The message, if it is due, or if the broker has none; None until it is known whether gateway and radio module
         answer."""
-        gateway, module = self.requests.gateway.is_online, self.requests.module.is_online
+        gateway, module = self.requests.gateway_probe.is_online, self.requests.module_probe.is_online
         if gateway is None or (gateway and module is None) or (is_published and self.clock() < self.due):
             return None
         self.due = self.clock() + HEALTH_EVERY
@@ -44,19 +45,20 @@ class HealthReport:
 
     def text(self, has_gateway: bool, has_stick: bool) -> str:
         """The message, with whether gateway and stick answer."""
-        health = health_of(map(observed_device, self.devices.known.values()), self.devices.table, self.wall())
+        observed_devices = map(observed_device, self.devices.known_devices.values())
+        health = health_of(observed_devices, self.devices.table, self.time_of_day())
         last = health.last_telegram
-        kinds = {"low_battery": health.low_battery, "silent": health.silent, "weak": health.weak}
+        names_by_kind = {"low_battery": health.low_battery, "silent": health.silent, "weak": health.weak}
         members = {
             "base": self.base, "gateway": has_gateway, "stick": has_stick, "version": VERSION,
             "last_telegram": None if last is None else time_text(last),
             "last_telegram_seconds": None if last is None else int(last),
-            **{kind: {"count": len(found), "ids": found[:MAX_NAMED_DEVICES]} for kind, found in kinds.items()},
+            **{kind: {"count": len(names), "ids": names[:MAX_NAMED_DEVICES]} for kind, names in names_by_kind.items()},
         }
         return json.dumps(members, sort_keys=True, separators=(",", ":"))
 
 
 def observed_device(device: Device) -> ObservedDevice:
     """A device, with the time of its last telegram."""
-    time = time_in(device.reported)
-    return ObservedDevice(device.name, device.eep, device.reported, time.timestamp() if time else None)
+    time = time_in(device.last_readings)
+    return ObservedDevice(device.name, device.eep, device.last_readings, time.timestamp() if time else None)

@@ -38,18 +38,18 @@ class RateLimitedLog:
     def __init__(self, clock: Callable[[], float]):
         self.clock = clock
         # by kind: when its period began, how many messages it had, and how many of them were left out
-        self.began: dict[str, float] = {}
-        self.count: dict[str, int] = {}
-        self.left_out: dict[str, int] = {}
+        self.period_start: dict[str, float] = {}
+        self.message_count: dict[str, int] = {}
+        self.left_out_counts: dict[str, int] = {}
 
     def warning(self, kind: str, message: str) -> None:
         """Logs a message of this kind, or counts it."""
         now = self.clock()
-        if kind not in self.began or now >= self.began[kind] + PERIOD:
-            self.began[kind], self.count[kind] = now, 0
-        self.count[kind] += 1
-        if self.count[kind] > MAX_MESSAGES:
-            self.left_out[kind] = self.left_out.get(kind, 0) + 1
+        if kind not in self.period_start or now >= self.period_start[kind] + PERIOD:
+            self.period_start[kind], self.message_count[kind] = now, 0
+        self.message_count[kind] += 1
+        if self.message_count[kind] > MAX_MESSAGES:
+            self.left_out_counts[kind] = self.left_out_counts.get(kind, 0) + 1
             return
-        count = self.left_out.pop(kind, 0)
+        count = self.left_out_counts.pop(kind, 0)
         logging.warning("%s%s", message, f" ({count} similar messages before)" if count else "")

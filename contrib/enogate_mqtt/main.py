@@ -52,8 +52,8 @@ def run(words: Arguments, settings: PublishingSettings) -> None:
     store = Store(words.state, settings.discovery, words.boot)
     broker = Broker(lambda version, is_reader: Connection(paho, login, topics, version, clock, is_reader),
                     f"{login.host}:{login.port}", clock)
-    removed = store.removed | old_discovery_topics(topics, store)
-    devices = Devices(topics, Table(), settings.expire_after, store.devices, removed,
+    removed_topics = store.removed_topics | old_discovery_topics(topics, store)
+    devices = Devices(topics, Table(), settings.expire_after, store.devices, removed_topics,
                       may_adopt=store.may_adopt, label_wait=settings.label_wait, clock=clock)
     desk = Desk(words.desk, clock)
     queries = Queries(devices, desk) if settings.queries else None
@@ -83,9 +83,9 @@ def old_discovery_topics(topics: Topics, store: Store) -> set[str]:
     """The discovery messages below another topic prefix, if it was changed."""
     if store.old_discovery in ("", topics.discovery):
         return set()
-    old = Topics(topics.name, store.old_discovery)
-    found = set(discovery.gateway_configs(old))
-    return found.union(*Devices(old, Table(), known=store.devices).shown.values())
+    old_topics = Topics(topics.name, store.old_discovery)
+    removed_topics = set(discovery.gateway_configs(old_topics))
+    return removed_topics.union(*Devices(old_topics, Table(), known_devices=store.devices).shown_configs.values())
 
 
 def print_messages(topics: Topics, settings: PublishingSettings) -> None:

@@ -26,11 +26,11 @@ def orders_of(topics: Topics, topic: str, payload: bytes) -> bytes:
         return b"".join(without_cr(line)[:MAX_LINE] + b"\n" for line in payload.split(b"\n") if line)
     command = payload.decode("ascii", "replace")
     if topic == topics.learn_command:
-        order, expected = LEARN_ORDERS.get(command), "ON or OFF"
+        order, expected_text = LEARN_ORDERS.get(command), "ON or OFF"
     else:
-        order, expected = command_order(topic.removeprefix(topics.root + "/"), command)
+        order, expected_text = command_order(topic.removeprefix(topics.root + "/"), command)
     if order is None:
-        raise InvalidMessage(f"{payload[:SHOWN_OF_A_PAYLOAD]!r} is not {expected}")
+        raise InvalidMessage(f"{payload[:SHOWN_OF_A_PAYLOAD]!r} is not {expected_text}")
     return order.encode() + b"\n"
 
 
@@ -44,10 +44,10 @@ def without_cr(line: bytes) -> bytes:
 def command_order(subtopic: str, command: str) -> tuple[str | None, str]:
     """The order for a command at ID/OV/CHANNEL/set or ID/POS/0/set, if it is one, and what the subtopic expects."""
     percent = command if re.fullmatch("0|[1-9][0-9]?|100", command) else None
-    if found := re.fullmatch(f"({DEVICE_PATTERN})/OV/([0-9]{{1,2}})/set", subtopic):
-        return switch_order(f"{found[1]} {int(found[2])}", command, percent), "ON, OFF or 0 to 100"
-    if found := re.fullmatch(f"({DEVICE_PATTERN})/POS/0/set", subtopic):
-        return blind_order(found[1], command, percent), "OPEN, CLOSE, STOP or 0 to 100"
+    if match := re.fullmatch(f"({DEVICE_PATTERN})/OV/([0-9]{{1,2}})/set", subtopic):
+        return switch_order(f"{match[1]} {int(match[2])}", command, percent), "ON, OFF or 0 to 100"
+    if match := re.fullmatch(f"({DEVICE_PATTERN})/POS/0/set", subtopic):
+        return blind_order(match[1], command, percent), "OPEN, CLOSE, STOP or 0 to 100"
     raise InvalidMessage("the topic is not ID/OV/CHANNEL/set or ID/POS/0/set (with ID in upper case)")
 
 

@@ -27,16 +27,16 @@ class Entry:
     1970, if that is known), and the number of its message once it is published. A line that was read before there was
     this connection is late."""
     line: str
-    before: Position
-    read: float = 0.0
-    time: float | None = None
-    number: int | None = None
+    start_position: Position
+    read_at: float = 0.0
+    time_of_day: float | None = None
+    message_number: int | None = None
     is_late: bool = False
 
     def properties(self, now: float) -> tuple[tuple[str, str], ...]:
         """The user properties of its message at this time, by the clock of the bridge."""
-        time = (("time", str(int(self.time))),) if self.time is not None else ()
-        return (*time, ("late", "1")) if self.is_late or now > self.read + LATE_AFTER else time
+        time = (("time", str(int(self.time_of_day))),) if self.time_of_day is not None else ()
+        return (*time, ("late", "1")) if self.is_late or now > self.read_at + LATE_AFTER else time
 
 
 class Outbox:
@@ -46,19 +46,19 @@ class Outbox:
         self.entries: deque[Entry] = deque()
         self.is_dropping = False
 
-    def add(self, line: str, before: Position, read: float = 0.0, time: float | None = None) -> None:
+    def add(self, line: str, start_position: Position, read_at: float = 0.0, time_of_day: float | None = None) -> None:
         if len(self.entries) == MAX_LINES:
             self.entries.popleft()
             if not self.is_dropping:
                 logging.warning("broker unavailable or too slow: %s lines kept, dropping the oldest", MAX_LINES)
             self.is_dropping = True
-        self.entries.append(Entry(line, before, read, time))
+        self.entries.append(Entry(line, start_position, read_at, time_of_day))
 
     def start_session(self) -> None:
         """A new connection knows nothing of messages that were published on another one."""
         self.is_dropping = False
         for entry in self.entries:
-            entry.number, entry.is_late = None, True
+            entry.message_number, entry.is_late = None, True
 
     def publish(self, publish: Callable[[Entry], int], has_room: Callable[[], bool]) -> None:
         """Publishes the lines that are not published yet, while there is room for another message; `publish` returns
@@ -66,17 +66,18 @@ class Outbox:
         for entry in self.entries:
             if not has_room():
                 return
-            if entry.number is None:
-                entry.number = publish(entry)
+            if entry.message_number is None:
+                entry.message_number = publish(entry)
 
-    def drop_acknowledged(self, unacknowledged: Container[int]) -> None:
+    def drop_acknowledged(self, unacknowledged_numbers: Container[int]) -> None:
         """Drops the lines at the front that the broker has acknowledged."""
-        while self.entries and self.entries[0].number is not None and self.entries[0].number not in unacknowledged:
+        while (self.entries and self.entries[0].message_number is not None
+               and self.entries[0].message_number not in unacknowledged_numbers):
             self.entries.popleft()
 
-    def acknowledged_position(self, end: Position) -> Position:
-        """The position up to which all lines are acknowledged; `end` is that up to which they were read."""
-        return self.entries[0].before if self.entries else end
+    def acknowledged_position(self, end_position: Position) -> Position:
+        """The position up to which all lines are acknowledged; `end_position` is that up to which they were read."""
+        return self.entries[0].start_position if self.entries else end_position
 
 
 class Backlog:

@@ -16,33 +16,33 @@ class Queries:
     empties, so a new run of the bridge gives none again."""
 
     def __init__(self, devices: Devices, desk: Desk):
-        self.devices, self.due = devices, 0.0
-        self.given = desk.appended_orders(QUERY_START)
+        self.devices, self.next_query_at = devices, 0.0
+        self.given_queries = desk.appended_orders(QUERY_START)
         # the devices that need not be looked at again
-        self.done: set[str] = set()
+        self.finished_devices: set[str] = set()
 
     def forget_given(self) -> None:
         """The gateway was started."""
-        self.given.clear()
-        self.done.clear()
+        self.given_queries.clear()
+        self.finished_devices.clear()
 
     def take_due_query(self, now: float) -> bytes | None:
         """The query that is due, if there is one."""
-        if now < self.due:
+        if now < self.next_query_at:
             return None
-        self.due = now + QUERY_EVERY
-        for name in sorted(self.devices.known.keys() - self.done):
+        self.next_query_at = now + QUERY_EVERY
+        for name in sorted(self.devices.known_devices.keys() - self.finished_devices):
             query = self.query_of(name)
-            if query and query not in self.given:
+            if query and query not in self.given_queries:
                 return query
-            self.done.add(name)
+            self.finished_devices.add(name)
         return None
 
     def note_given(self, query: bytes) -> None:
         """This query was given."""
-        self.given.add(query)
+        self.given_queries.add(query)
 
     def query_of(self, name: str) -> bytes | None:
         """The order that asks a device for the states of all its channels; None if it is no actuator."""
-        channel = self.devices.table.channel_of_all(self.devices.known[name].eep)
+        channel = self.devices.table.channel_of_all(self.devices.known_devices[name].eep)
         return None if channel is None else b"%s%s %d" % (QUERY_START, name.encode(), channel)

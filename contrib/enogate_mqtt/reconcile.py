@@ -16,7 +16,7 @@ MAX_UNKNOWN = 1000
 
 class RequestingConnection(Protocol):
     """What is needed of a connection."""
-    unanswered: set[int]
+    unanswered_numbers: set[int]
 
     def request_retained(self, filters: list[str]) -> int: ...
 
@@ -28,35 +28,36 @@ class Part:
     which the broker may retain anything, is compared alone; of what it retains, messages that are expected are always
     noted."""
 
-    def __init__(self, name: str, filters: list[str], is_large: bool = False, expected: Iterable[str] = ()):
+    def __init__(self, name: str, filters: list[str], is_large: bool = False, expected_topics: Iterable[str] = ()):
         self.name, self.filters, self.is_large = name, filters, is_large
-        self.exact = {one for one in filters if "+" not in one}
-        self.expected = self.exact.union(expected)
-        self.unexpected = 0
+        self.exact_topics = {topic_filter for topic_filter in filters if "+" not in topic_filter}
+        self.expected_topics = self.exact_topics.union(expected_topics)
+        self.unexpected_count = 0
         # the other filters, each as the text before its first wildcard and its levels
-        self.shapes = [(one.partition("+")[0], one.split("/")) for one in filters if "+" in one]
+        self.wildcard_filters = [(topic_filter.partition("+")[0], topic_filter.split("/"))
+                                 for topic_filter in filters if "+" in topic_filter]
         self.retained: dict[str, str] = {}
         # what the bridge has published since the request: an older message may still be under way
-        self.published: set[str] = set()
-        self.number, self.is_cancelled = -1, False
+        self.published_topics: set[str] = set()
+        self.request_number, self.is_cancelled = -1, False
 
     def has_topic(self, topic: str) -> bool:
-        return topic in self.exact or self.has_wildcard_topic(topic)
+        return topic in self.exact_topics or self.has_wildcard_topic(topic)
 
     def has_wildcard_topic(self, topic: str) -> bool:
         """Whether a filter with a wildcard matches a topic."""
-        for start, levels in self.shapes:
+        for start, levels in self.wildcard_filters:
             if topic.startswith(start) and is_match(levels, topic):
                 return True
         return False
 
     def note_retained(self, topic: str, text: str) -> None:
         """A retained message has arrived."""
-        if topic in self.published:
+        if topic in self.published_topics:
             return
-        if topic not in self.expected and topic not in self.retained:
-            self.unexpected += 1
-        if topic in self.expected or topic in self.retained or self.unexpected <= MAX_UNKNOWN:
+        if topic not in self.expected_topics and topic not in self.retained:
+            self.unexpected_count += 1
+        if topic in self.expected_topics or topic in self.retained or self.unexpected_count <= MAX_UNKNOWN:
             self.retained[topic] = text
 
 
@@ -71,59 +72,59 @@ class Reconciler:
 
     def __init__(self, clock: Callable[[], float], compare: Callable[[Part], None]):
         self.clock, self.compare = clock, compare
-        self.waiting: deque[Part] = deque()
-        self.active: list[Part] = []
-        self.heard = clock()
+        self.waiting_parts: deque[Part] = deque()
+        self.active_parts: list[Part] = []
+        self.last_message_at = clock()
 
     def add(self, parts: Iterable[Part]) -> None:
-        self.waiting.extend(parts)
+        self.waiting_parts.extend(parts)
 
     @property
     def is_done(self) -> bool:
-        return not self.waiting and not self.active
+        return not self.waiting_parts and not self.active_parts
 
     def handle_retained(self, topic: str, text: str) -> None:
         """Handles a retained message."""
-        self.heard = self.clock()
+        self.last_message_at = self.clock()
         # most topics are in a filter as they are, and no other part has the same
-        for part in ([part for part in self.active if topic in part.exact]
-                     or [part for part in self.active if part.has_wildcard_topic(topic)]):
+        for part in ([part for part in self.active_parts if topic in part.exact_topics]
+                     or [part for part in self.active_parts if part.has_wildcard_topic(topic)]):
             part.note_retained(topic, text)
 
     def note_published(self, topic: str, text: str) -> None:
         """The bridge has published a retained message."""
-        for part in self.active:
+        for part in self.active_parts:
             if part.has_topic(topic):
-                part.published.add(topic)
+                part.published_topics.add(topic)
                 part.retained[topic] = text
 
     def turn(self, connection: RequestingConnection) -> None:
         """Starts parts, and compares those that are complete."""
-        for part in list(self.active):
+        for part in list(self.active_parts):
             self.advance(part, connection)
-        while self.waiting and self.has_room(self.waiting[0]):
-            part = self.waiting.popleft()
-            part.number = connection.request_retained(part.filters)
-            self.active.append(part)
-            self.heard = self.clock()
+        while self.waiting_parts and self.has_room(self.waiting_parts[0]):
+            part = self.waiting_parts.popleft()
+            part.request_number = connection.request_retained(part.filters)
+            self.active_parts.append(part)
+            self.last_message_at = self.clock()
 
     def has_room(self, part: Part) -> bool:
         """Whether this part may be started now."""
-        if part.is_large or any(other.is_large for other in self.active):
-            return not self.active
-        return len(self.active) < MAX_PARTS
+        if part.is_large or any(active_part.is_large for active_part in self.active_parts):
+            return not self.active_parts
+        return len(self.active_parts) < MAX_PARTS
 
     def advance(self, part: Part, connection: RequestingConnection) -> None:
         """What is retained comes before the answer to the request, or before the answer to its cancellation."""
-        is_answered = part.number not in connection.unanswered
+        is_answered = part.request_number not in connection.unanswered_numbers
         if is_answered:
-            self.heard = self.clock()
-        if not is_answered and self.clock() < self.heard + QUIET_SECONDS:
+            self.last_message_at = self.clock()
+        if not is_answered and self.clock() < self.last_message_at + QUIET_SECONDS:
             return
         if not part.is_cancelled:
-            part.number, part.is_cancelled = connection.cancel_request(part.filters), True
-            self.heard = self.clock()
+            part.request_number, part.is_cancelled = connection.cancel_request(part.filters), True
+            self.last_message_at = self.clock()
             return
-        self.active.remove(part)
+        self.active_parts.remove(part)
         self.compare(part)
 

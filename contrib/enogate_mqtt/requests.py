@@ -33,20 +33,20 @@ class ListRequest:
     """Asks for the list at the start and when its answer may have changed, and again until it is answered."""
 
     def __init__(self) -> None:
-        self.due, self.pause, self.asked = 0.0, FIRST_PAUSE, -math.inf
+        self.due, self.pause, self.asked_at = 0.0, FIRST_PAUSE, -math.inf
 
     def note_needed(self, now: float, is_news: bool = True) -> None:
         """The answer may have changed. Without news, a list that is asked for already keeps its pauses: it may never be
         complete."""
         if is_news or self.is_answered:
             self.pause = FIRST_PAUSE
-            self.due = min(self.due, max(now, self.asked + FIRST_PAUSE))
+            self.due = min(self.due, max(now, self.asked_at + FIRST_PAUSE))
 
     def begin_if_due(self, now: float) -> bool:
         """Whether to ask now; if so, the next request is due after a pause, which grows."""
         if now < self.due:
             return False
-        self.asked, self.due = now, now + self.pause
+        self.asked_at, self.due = now, now + self.pause
         self.pause = min(2 * self.pause, MAX_PAUSE)
         return True
 
@@ -64,31 +64,31 @@ class ListRequest:
 class Probe:
     """Whether something answers a request that is repeated, within so many seconds: `is_online` is None until this is
     known."""
-    every: float
-    within: float
+    interval: float
+    max_wait: float
     due: float = 0.0
-    asked: float = math.inf
+    asked_at: float = math.inf
     is_online: bool | None = None
 
     def begin_if_due(self, now: float) -> bool:
         """Whether to ask now."""
         if now < self.due:
             return False
-        self.due = now + self.every
+        self.due = now + self.interval
         self.note_asked(now)
         return True
 
     def note_asked(self, now: float) -> None:
         """It is asked now. An unanswered request stays the one that counts."""
-        self.asked = min(self.asked, now)
+        self.asked_at = min(self.asked_at, now)
 
     def note_answer(self) -> None:
-        self.asked, self.is_online = math.inf, True
+        self.asked_at, self.is_online = math.inf, True
 
     @property
     def late_at(self) -> float:
         """When the answer has been missing for too long; never if this was reported."""
-        return math.inf if self.is_online is False else self.asked + self.within
+        return math.inf if self.is_online is False else self.asked_at + self.max_wait
 
     def note_if_late(self, now: float, earliest: float = 0.0) -> bool:
         """Whether the answer has been missing for too long, and this was not reported yet. It is not missing before the
@@ -102,8 +102,8 @@ class Probe:
 @dataclass(frozen=True)
 class WindowEnd:
     """When a learn window is to be closed: by the clock, and in seconds since 1970, for a bridge that starts later."""
-    until: float
-    end: float
+    clock_time: float
+    time_of_day: float
 
 
 class Requests:
@@ -113,56 +113,58 @@ class Requests:
 
     def __init__(self, desk: Desk, clock: Callable[[], float], wall: Callable[[], float], learn_for: float,
                  learn_until: float | None = None, queries: Queries | None = None):
-        self.desk, self.clock, self.wall, self.learn_for, self.queries = desk, clock, wall, learn_for, queries
-        self.list = ListRequest()
+        self.desk, self.clock, self.time_of_day, self.learn_for, self.queries = desk, clock, wall, learn_for, queries
+        self.list_request = ListRequest()
         # whether the gateway answers `status`, whether it writes any line after an order, and whether the module works
-        self.gateway, self.output = Probe(STATUS_EVERY, ANSWER_WITHIN), Probe(math.inf, SILENT_FOR)
-        self.module = Probe(PROBE_AFTER, SILENT_FOR)
+        self.gateway_probe, self.output_probe = Probe(STATUS_EVERY, ANSWER_WITHIN), Probe(math.inf, SILENT_FOR)
+        self.module_probe = Probe(PROBE_AFTER, SILENT_FOR)
         # when a start of the gateway was noticed after which it has not answered yet
-        self.started = -math.inf
+        self.started_at = -math.inf
         self.status: Status | None = None
         self.window: WindowEnd | None = None
         if learn_until is not None:
             # if the time of day was set back, a window is not open for longer than a new one
             self.schedule_window_end(min(max(learn_until - wall(), 0.0), learn_for))
-        self.change: DeskChange | None = None
+        self.desk_change: DeskChange | None = None
 
     def turn(self, needs_list: bool) -> None:
         """Gives the orders that are due."""
         now = self.clock()
         self.handle_desk_change(now)
         if needs_list:
-            self.list.note_needed(now, is_news=False)
-        if self.list.begin_if_due(now):
+            self.list_request.note_needed(now, is_news=False)
+        if self.list_request.begin_if_due(now):
             self.give_order(b"list\n")
-        if self.gateway.begin_if_due(now):
+        if self.gateway_probe.begin_if_due(now):
             self.give_order(b"status\n")
         # the order `base` has the response of the module as its answer
-        if self.gateway.is_online and self.module.begin_if_due(now):
+        if self.gateway_probe.is_online and self.module_probe.begin_if_due(now):
             self.give_order(b"base\n")
-        if self.window and now >= self.window.until:
+        if self.window and now >= self.window.clock_time:
             self.close_window()
         self.ask_actuator(now)
-        earliest = self.started + START_WITHIN
-        if self.gateway.note_if_late(now) or self.gateway.is_online and self.output.note_if_late(now, earliest):
+        earliest = self.started_at + START_WITHIN
+        if (self.gateway_probe.note_if_late(now)
+                or self.gateway_probe.is_online and self.output_probe.note_if_late(now, earliest)):
             self.report_silence()
-        self.module.note_if_late(now, earliest)
+        self.module_probe.note_if_late(now, earliest)
 
     def next_due(self) -> float:
         """When `turn` has something to do again, as far as this is known now."""
-        due = [self.list.due, self.gateway.due, self.gateway.late_at]
-        if self.gateway.is_online:
-            earliest = self.started + START_WITHIN
-            due += [self.module.due, *(max(check.late_at, earliest) for check in (self.output, self.module))]
+        due = [self.list_request.due, self.gateway_probe.due, self.gateway_probe.late_at]
+        if self.gateway_probe.is_online:
+            earliest = self.started_at + START_WITHIN
+            due += [self.module_probe.due,
+                    *(max(check.late_at, earliest) for check in (self.output_probe, self.module_probe))]
         if self.window:
-            due.append(self.window.until)
+            due.append(self.window.clock_time)
         if self.queries and self.may_ask_actuators():
-            due.append(self.queries.due)
+            due.append(self.queries.next_query_at)
         return min(due)
 
     def may_ask_actuators(self) -> bool:
         """Whether actuators are known and can be reached."""
-        return bool(self.list.is_answered and self.gateway.is_online and self.module.is_online)
+        return bool(self.list_request.is_answered and self.gateway_probe.is_online and self.module_probe.is_online)
 
     def ask_actuator(self, now: float) -> None:
         """Asks an actuator for its states, if one is to be asked and can be reached."""
@@ -174,48 +176,49 @@ class Requests:
     def handle_desk_change(self, now: float) -> None:
         """Asks again if the gateway was started, or a label was given."""
         news = self.desk.take_change()
-        lost = [repr(order.decode("ascii", "replace")[:SHOWN_OF_ORDER]) for order in self.desk.take_lost_orders()]
-        if lost:
-            more = f" and {len(lost) - MAX_NAMED_ORDERS} more" if len(lost) > MAX_NAMED_ORDERS else ""
+        lost_orders = [repr(order.decode("ascii", "replace")[:SHOWN_OF_ORDER])
+                       for order in self.desk.take_lost_orders()]
+        if lost_orders:
+            and_more = f" and {len(lost_orders) - MAX_NAMED_ORDERS} more" if len(lost_orders) > MAX_NAMED_ORDERS else ""
             logging.warning("not answered before the gateway was started again, so probably lost: %s%s",
-                            ", ".join(lost[:MAX_NAMED_ORDERS]), more)
+                            ", ".join(lost_orders[:MAX_NAMED_ORDERS]), and_more)
         if news in (DeskChange.CREATED, DeskChange.REPLACED, DeskChange.TRUNCATED):
-            self.gateway.due = self.module.due = now
-            if self.change is None:
+            self.gateway_probe.due = self.module_probe.due = now
+            if self.desk_change is None:
                 # if it is started again and again, the first time counts
-                self.started = now
-            self.change = news
+                self.started_at = now
+            self.desk_change = news
             if self.queries:
                 self.queries.forget_given()
         if news is not DeskChange.NONE:
-            self.list.note_needed(now)
+            self.list_request.note_needed(now)
 
     def report_silence(self) -> None:
         """Says once that the gateway does not answer, with a change at the desk that may be the reason. Whether the
         module works is then unknown."""
-        self.gateway.is_online, self.module = False, Probe(PROBE_AFTER, SILENT_FOR)
+        self.gateway_probe.is_online, self.module_probe = False, Probe(PROBE_AFTER, SILENT_FOR)
         logging.warning("the gateway does not answer: orders are lost until it runs")
-        if self.change is DeskChange.TRUNCATED:
+        if self.desk_change is DeskChange.TRUNCATED:
             logging.warning("%s was truncated: if > was used in place of >>, restart the gateway", self.desk.path)
-        if self.change is DeskChange.REPLACED:
+        if self.desk_change is DeskChange.REPLACED:
             logging.warning("%s was replaced by another file, which the gateway does not read: restart the gateway",
                             self.desk.path)
 
     def handle_line(self, content: Content) -> None:
         """Handles a line of the gateway."""
-        self.output.note_answer()
+        self.output_probe.note_answer()
         self.desk.handle_line(content)
         match content:
             case Status():
-                if self.gateway.is_online is False:
+                if self.gateway_probe.is_online is False:
                     logging.info("the gateway answers again")
-                self.gateway.note_answer()
-                self.status, self.change = content, None
+                self.gateway_probe.note_answer()
+                self.status, self.desk_change = content, None
             case Response() | Telegram():
-                self.module.note_answer()
-                self.module.due = self.clock() + PROBE_AFTER
+                self.module_probe.note_answer()
+                self.module_probe.due = self.clock() + PROBE_AFTER
             case EndOfList():
-                self.gateway.due = min(self.gateway.due, self.clock())
+                self.gateway_probe.due = min(self.gateway_probe.due, self.clock())
 
     def note_window_orders(self, orders: bytes) -> None:
         """Remembers commands for the learn window that were passed on, and asks for the status after them."""
@@ -226,20 +229,20 @@ class Requests:
                 self.window = None
             else:
                 continue
-            self.gateway.due = self.clock()
+            self.gateway_probe.due = self.clock()
 
     def schedule_window_end(self, seconds: float) -> None:
         """Closes the learn window after so many seconds."""
-        self.window = WindowEnd(self.clock() + seconds, self.wall() + seconds)
+        self.window = WindowEnd(self.clock() + seconds, self.time_of_day() + seconds)
 
     def close_window(self) -> None:
         """Closes the learn window, if it was opened through the bridge."""
         if self.window and self.give_order(CLOSE_WINDOW + b"\n"):
-            self.window, self.gateway.due = None, self.clock()
+            self.window, self.gateway_probe.due = None, self.clock()
 
     def give_order(self, order: bytes) -> bool:
         """Gives an order; without a desk, or if it takes none now, nothing is lost, since all of these are repeated."""
-        self.output.note_asked(self.clock())
+        self.output_probe.note_asked(self.clock())
         try:
             self.desk.append(order)
         except OSError:

@@ -163,8 +163,9 @@ def read_tls(environment: Mapping[str, str]) -> ssl.SSLContext | None:
         try:
             context.load_cert_chain(cert, key, password="")
         except OSError as error:
-            both = f"{cert} and {key}" if key else cert
-            raise WrongSetting(f"cannot load MQTT_CERT_FILE and MQTT_KEY_FILE: {both}: {error_text(error)}") from error
+            files_named = f"{cert} and {key}" if key else cert
+            raise WrongSetting(f"cannot load MQTT_CERT_FILE and MQTT_KEY_FILE: {files_named}: {error_text(error)}"
+                               ) from error
     return context
 
 

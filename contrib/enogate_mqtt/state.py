@@ -38,11 +38,12 @@ def check_version(connection: sqlite3.Connection) -> None:
         raise ForeignFile(f"version {version} of the state, expected {VERSION}")
 
 
-def position_of(inode: object, offset: object, last: object) -> Position:
+def position_of(inode: object, offset: object, last_bytes: object) -> Position:
     """How far the lines were read."""
-    if not (isinstance(inode, int) and isinstance(offset, int) and isinstance(last, bytes) and 0 <= offset <= MAX_SIZE):
+    if not (isinstance(inode, int) and isinstance(offset, int) and isinstance(last_bytes, bytes)
+            and 0 <= offset <= MAX_SIZE):
         raise ForeignFile("place of an unknown form")
-    return Position(inode, offset, last)
+    return Position(inode, offset, last_bytes)
 
 
 def last_seen(path: str) -> tuple[Position, dict[str, datetime]] | None:
@@ -50,10 +51,11 @@ def last_seen(path: str) -> tuple[Position, dict[str, datetime]] | None:
     device. None if the bridge has read none, or if the file cannot be read."""
     try:
         with contextlib.closing(sqlite3.connect(uri_of(path, "mode=ro"), uri=True, timeout=LOCK_WAIT)) as connection:
-            devices = last_readings(connection)
+            readings_by_device = last_readings(connection)
             row = connection.execute("SELECT inode, offset, last FROM place").fetchone()
-        times = {device: time for device, reported in devices.items() if (time := time_in(reported))}
-        return (position_of(*row), times) if row else None
+        times_by_device = {device: time for device, readings in readings_by_device.items()
+                           if (time := time_in(readings))}
+        return (position_of(*row), times_by_device) if row else None
     except (sqlite3.Error, ForeignFile):
         return None
 
@@ -61,24 +63,25 @@ def last_seen(path: str) -> tuple[Position, dict[str, datetime]] | None:
 def last_readings(connection: sqlite3.Connection) -> dict[str, dict[str, str]]:
     """The last readings of each device, by their subtopics, or sqlite3.Error or ForeignFile."""
     check_version(connection)
-    return {device: texts_in(text) for device, text in connection.execute("SELECT id, told FROM device")}
+    rows = connection.execute("SELECT id, told FROM device")
+    return {device: texts_in(readings_text) for device, readings_text in rows}
 
 
 def texts_in(text: str) -> dict[str, str]:
     """The texts in a JSON object, by their names; none if it is something else."""
     try:
-        found = json.loads(text)
+        members = json.loads(text)
     except (ValueError, TypeError, RecursionError):
         return {}
-    members = found.items() if isinstance(found, dict) else ()
-    return {name: value for name, value in members if isinstance(value, str)}
+    named_values = members.items() if isinstance(members, dict) else ()
+    return {name: value for name, value in named_values if isinstance(value, str)}
 
 
-def time_in(reported: Mapping[str, str]) -> datetime | None:
+def time_in(readings: Mapping[str, str]) -> datetime | None:
     """The time of the last telegram in the readings of a device; None if they have none. Each time that the bridge
     stores has a time zone."""
     try:
-        time = datetime.fromisoformat(reported[LAST_SEEN_SUBTOPIC])
+        time = datetime.fromisoformat(readings[LAST_SEEN_SUBTOPIC])
     except (KeyError, ValueError):
         return None
     return time if time.tzinfo else None

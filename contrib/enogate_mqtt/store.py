@@ -56,7 +56,7 @@ class Store:
     def start_empty(self) -> None:
         """The state without a file."""
         self.devices: list[Device] = []
-        self.removed: set[str] = set()
+        self.removed_topics: set[str] = set()
         # whether the computer was not started since the position was saved
         self.position: Position | None = None
         self.is_same_boot = False
@@ -85,9 +85,9 @@ class Store:
                 raise
             logging.warning("%s: %s; replacing the file; its state is lost", self.path, error)
             self.close()
-            for end in ("", "-wal", "-shm"):
-                if os.path.exists(self.path + end):
-                    os.remove(self.path + end)
+            for file_end in ("", "-wal", "-shm"):
+                if os.path.exists(self.path + file_end):
+                    os.remove(self.path + file_end)
             self.prepare(wait)
 
     def prepare(self, wait: float) -> None:
@@ -122,7 +122,7 @@ class Store:
         self.devices = [Device(name, eep, label, maker, readings_in(reported), identities.get(name, "")) for
                         name, eep, label, maker, reported
                         in connection.execute("SELECT id, eep, label, maker, told FROM device")]
-        self.removed = {topic for topic, in connection.execute("SELECT topic FROM removed")}
+        self.removed_topics = {topic for topic, in connection.execute("SELECT topic FROM removed")}
         row = connection.execute("SELECT inode, offset, last, discovery, may_adopt FROM place").fetchone()
         if row:
             self.position, self.old_discovery, self.may_adopt = position_of(*row[:3]), row[3], bool(row[4])
@@ -133,7 +133,8 @@ class Store:
             raise ForeignFile("learn window of an unknown form")
         self.learn_until = row[0] if row else None
 
-    def save(self, position: Position, changed: Iterable[str], known: dict[str, Device], removed: set[str],
+    def save(self, position: Position, changed_names: Iterable[str], known_devices: dict[str, Device],
+             removed_topics: set[str],
              may_adopt: bool = False, learn_until: float | None = None) -> bool:
         """Saves this position, the changed devices, the topics to be deleted, and the end of the learn window. Returns
         whether it succeeded. If the file was not open, it gets the whole state."""
@@ -144,7 +145,7 @@ class Store:
             with self.connection:
                 if self.is_behind:
                     self.connection.execute("DELETE FROM device")
-                    changed = list(known)
+                    changed_names = list(known_devices)
                 self.connection.execute("DELETE FROM place")
                 values = (position.inode, position.offset, position.last, self.discovery, may_adopt)
                 self.connection.execute("INSERT INTO place VALUES (?, ?, ?, ?, ?)", values)
@@ -153,11 +154,12 @@ class Store:
                 self.connection.execute("DELETE FROM learn")
                 if learn_until is not None:
                     self.connection.execute("INSERT INTO learn VALUES (?)", (learn_until,))
-                for name in changed:
-                    self.save_device(self.connection, name, known.get(name))
-                if removed != self.removed:
+                for name in changed_names:
+                    self.save_device(self.connection, name, known_devices.get(name))
+                if removed_topics != self.removed_topics:
                     self.connection.execute("DELETE FROM removed")
-                    self.connection.executemany("INSERT INTO removed VALUES (?)", [(topic,) for topic in removed])
+                    self.connection.executemany("INSERT INTO removed VALUES (?)",
+                                                [(topic,) for topic in removed_topics])
         except (sqlite3.Error, OverflowError) as error:
             if not self.is_failing:
                 logging.error("cannot save the state: %s", error)
@@ -166,7 +168,7 @@ class Store:
         if self.is_behind:
             logging.info("%s: the state is saved again", self.path)
         self.is_failing = self.is_behind = False
-        self.removed, self.may_adopt, self.learn_until = set(removed), may_adopt, learn_until
+        self.removed_topics, self.may_adopt, self.learn_until = set(removed_topics), may_adopt, learn_until
         return True
 
     def save_device(self, connection: sqlite3.Connection, name: str, device: Device | None) -> None:
@@ -176,18 +178,20 @@ class Store:
         if device and device.identity != name:
             connection.execute("INSERT INTO identity VALUES (?, ?)", (name, device.identity))
         if device:
-            values = (name, device.eep, device.label, device.maker, json.dumps(device.reported))
+            values = (name, device.eep, device.label, device.maker, json.dumps(device.last_readings))
             connection.execute("INSERT INTO device VALUES (?, ?, ?, ?, ?)", values)
 
 
 def readings_in(text: str) -> dict[str, str]:
     """The readings of a device, by their subtopics."""
-    reported = json.loads(text)
-    if not isinstance(reported, dict) or not all(isinstance(value, str) for value in reported.values()):
+    texts_by_subtopic = json.loads(text)
+    if not isinstance(texts_by_subtopic,
+                      dict) or not all(isinstance(reading_text, str) for reading_text in texts_by_subtopic.values()):
         raise ForeignFile("readings of an unknown form")
-    for subtopic, value in reported.items():
+    for subtopic, reading_text in texts_by_subtopic.items():
         # an earlier version accepted lines with such readings, which cannot be published
-        if not SUBTOPIC_PATTERN.fullmatch(subtopic) or any("\ud800" <= character <= "\udfff" for character in value):
+        if not SUBTOPIC_PATTERN.fullmatch(subtopic) or any("\ud800" <= character <= "\udfff"
+                                                           for character in reading_text):
             raise ForeignFile("readings that cannot be published")
-    return reported
+    return texts_by_subtopic
 

@@ -30,8 +30,8 @@ class Waiter:
         is stopped, but at most so many seconds."""
         reading, writing = [self.stops], []
         for connection in connections:
-            for found, sockets in zip((reading, writing), connection.sockets()):
-                found += sockets
+            for sockets_of_kind, sockets in zip((reading, writing), connection.sockets()):
+                sockets_of_kind += sockets
             seconds = 0.0 if connection.has_work() else seconds
         if watches:
             seconds = min(seconds, self.files.longest_wait())

@@ -15,15 +15,16 @@ from enogate_tools import VERSION, files, gateways
 from enogate_tools.check import ASK_TIMEOUT, Check
 from enogate_tools.system import System
 
-from .anonymous import GATEWAY, Names
-from .contents import Output, base_of, output_of, texts_of
-from .replay import BASE, EXPECTED, SCRIPT, BadReport, replay
+from .anonymous import GATEWAY_NAME, Names
+from .contents import OutputFunction, base_of, output_of, texts_of
+from .replay import BASE_FILE, EXPECTED_FILE, SCRIPT_FILE, BadReport, replay
 from .script import script_of
 
 # How many bytes of lines a report has: those of three days with 10,000 packets each. If no base ID is known, no packet
 # was addressed to the gateway.
-MAX_LINES, ANY_BASE, MODE = 1 << 24, "FF800000", 0o600
-README = """Report on the gateway {}, for `enogate-report --replay FILE`. The page faults.md of the guide describes it.
+MAX_LINES, ANY_BASE, REPORT_MODE = 1 << 24, "FF800000", 0o600
+README_FORM = """\
+Report on the gateway {}, for `enogate-report --replay FILE`. The page faults.md of the guide describes it.
 
 `enogate replay --base {} --explain <script.txt` must write expected.lines, besides packets for the radio module. These
 are the lines of lines.txt, with counters from 0 on. The numbers of the differences are:
@@ -34,20 +35,21 @@ are the lines of lines.txt, with counters from 0 on. The numbers of the differen
 Not in this report:
 {}
 """
-SENTENCE = """It has the lines, a script that replays them, versions, settings without secrets, journals, and the output
+HELP_SENTENCE = """\
+It has the lines, a script that replays them, versions, settings without secrets, journals, and the output
 of enogate-check. Look at it before you send it: the packets show when people are in the building."""
 
 
-def left_out_files(path: str, most: int) -> list[str]:
+def left_out_files(path: str, max_size: int) -> list[str]:
     """The files of lines that are not wholly in so many bytes at the end of the lines. Compressed ones are not read."""
-    found = {*glob.glob(f"{glob.escape(path)}[.-][0-9]*")}
-    for one in filter(files.is_safe, reversed(rotated_files(path))):
-        most -= os.stat(one).st_size
-        found = found - {one} if most >= 0 else found | {one}
-    return sorted(found)
+    log_files = {*glob.glob(f"{glob.escape(path)}[.-][0-9]*")}
+    for log_path in filter(files.is_safe, reversed(rotated_files(path))):
+        max_size -= os.stat(log_path).st_size
+        log_files = log_files - {log_path} if max_size >= 0 else log_files | {log_path}
+    return sorted(log_files)
 
 
-def contents_of_report(check: Check, output: Output, is_anonymous: bool) -> dict[str, bytes]:
+def contents_of_report(check: Check, output: OutputFunction, is_anonymous: bool) -> dict[str, bytes]:
     """The files in a report by their names."""
     missing: list[str] = []
     texts, base = texts_of(check, output, is_anonymous, missing), base_of(check) or ANY_BASE
@@ -58,19 +60,22 @@ def contents_of_report(check: Check, output: Output, is_anonymous: bool) -> dict
     except OSError as error:
         missing.append(f"{check.lines}: {error.strerror}")
     lines = [*last_lines(check.lines, MAX_LINES)][::-1]
-    missing += [f"{one}: older lines; from when to when is not known" for one in left_out_files(check.lines, MAX_LINES)]
+    missing += [f"{log_path}: older lines; from when to when is not known"
+                for log_path in left_out_files(check.lines, MAX_LINES)]
     if not any(b'"type":"packet"' in line for line in lines):
         missing.append(("packets: the lines have none" if lines else "packets: no line was read")
                        + ("" if check.settings["EXPLAIN"] == "--explain" else "; EXPLAIN=--explain is needed"))
     names, title = Names(lines, base, check.name), check.name
     if is_anonymous:
-        missing, title = [*map(names.text, missing)], GATEWAY
-        lines, base = [*map(names.line, lines)], names.ids.get(base, ANY_BASE)
-        texts = {name: names.text(text) for name, text in texts.items()}
+        missing, title = [*map(names.anonymous_text, missing)], GATEWAY_NAME
+        lines, base = [*map(names.anonymous_line, lines)], names.ids.get(base, ANY_BASE)
+        texts = {name: names.anonymous_text(text) for name, text in texts.items()}
     script = script_of(lines, base, names.unused_id)
-    texts["README.txt"] = README.format(title, base, len(script.orders) - script.inputs, script.left_out,
-                                        script.gaps, "\n".join(missing) or "(nothing is missing)")
-    texts |= {BASE: f"{base}\n", SCRIPT: "\n".join([*script.orders, ""]), EXPECTED: "\n".join([*script.expected, ""])}
+    texts["README.txt"] = README_FORM.format(title, base, len(script.orders) - script.input_count,
+                                             script.left_out_count,
+                                             script.gap_count, "\n".join(missing) or "(nothing is missing)")
+    texts |= {BASE_FILE: f"{base}\n", SCRIPT_FILE: "\n".join([*script.orders, ""]),
+              EXPECTED_FILE: "\n".join([*script.expected_lines, ""])}
     return {"lines.txt": b"".join(line + b"\n" for line in lines), **{name: texts[name].encode() for name in texts}}
 
 
@@ -81,12 +86,12 @@ def write_report(path: str, contents: dict[str, bytes], now: float) -> None:
     folder, name = os.path.split(path)
     directory = os.open(folder or ".", os.O_RDONLY | os.O_DIRECTORY)
     try:
-        replace_file(directory, name, contents, now, MODE)
+        replace_file(directory, name, contents, now, REPORT_MODE)
     finally:
         os.close(directory)
 
 
-def main(arguments: list[str] | None = None, system: System | None = None, output: Output = output_of,
+def main(arguments: list[str] | None = None, system: System | None = None, output: OutputFunction = output_of,
          clock=time.time) -> int:
     """Runs the program, and returns its exit status."""
     parser = argparse.ArgumentParser(
@@ -104,9 +109,9 @@ def main(arguments: list[str] | None = None, system: System | None = None, outpu
     try:
         if words.replay is not None:
             return replay(words.replay, words.program)
-        if why := gateways.why_unknown(gateways.paths_of(words.name, system.root), system.root):
-            parser.error(why)
-        title = GATEWAY if words.anonymous else words.name
+        if reason := gateways.why_unknown(gateways.paths_of(words.name, system.root), system.root):
+            parser.error(reason)
+        title = GATEWAY_NAME if words.anonymous else words.name
         folder = time.strftime(f"enogate-report-{title}-%Y-%m-%d-%H%M%S", time.localtime(now))
         contents = contents_of_report(Check(words.name, system), output, words.anonymous)
         path = words.output or f"{folder}.tar.gz"
@@ -117,5 +122,5 @@ def main(arguments: list[str] | None = None, system: System | None = None, outpu
         path = getattr(error, "filename", None) or words.replay
         print(f"enogate-report: {path}: {getattr(error, 'strerror', None) or error}", file=sys.stderr)
         return 1
-    print(f"{path}\n{SENTENCE}")
+    print(f"{path}\n{HELP_SENTENCE}")
     return 0

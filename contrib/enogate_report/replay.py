@@ -14,11 +14,12 @@ from collections.abc import Iterator
 
 from enogate_tools.port import is_base
 
-BASE, SCRIPT, EXPECTED = "base.txt", "script.txt", "expected.lines"
-NAMES = {BASE, SCRIPT, EXPECTED, "README.txt", "lines.txt", "versions.txt", "settings.txt", "check.txt", "journal.txt",
-         "journal-mqtt.txt"}
+BASE_FILE, SCRIPT_FILE, EXPECTED_FILE = "base.txt", "script.txt", "expected.lines"
+MEMBER_NAMES = {BASE_FILE, SCRIPT_FILE, EXPECTED_FILE, "README.txt", "lines.txt", "versions.txt", "settings.txt",
+                "check.txt", "journal.txt",
+                "journal-mqtt.txt"}
 FOLDER_PATTERN = "enogate-report-[A-Za-z0-9_-]+-[0-9]{4}-[0-9]{2}-[0-9]{2}-[0-9]{6}"
-MAX_SIZE, SHOWN = 1 << 26, 300
+MAX_CONTENTS, MAX_SHOWN_TEXT = 1 << 26, 300
 
 
 class BadReport(Exception):
@@ -27,24 +28,24 @@ class BadReport(Exception):
 
 def contents_of(path: str) -> dict[str, bytes]:
     """The files in a report by their names, or BadReport."""
-    found, pattern = dict[str, bytes](), FOLDER_PATTERN
+    contents, pattern = dict[str, bytes](), FOLDER_PATTERN
     try:
         with gzip.open(path) as file:
-            data = file.read(MAX_SIZE + 1)
-        if len(data) > MAX_SIZE:
+            text = file.read(MAX_CONTENTS + 1)
+        if len(text) > MAX_CONTENTS:
             raise BadReport("it is too large")
-        with tarfile.open(fileobj=io.BytesIO(data), mode="r:") as archive:
+        with tarfile.open(fileobj=io.BytesIO(text), mode="r:") as archive:
             for member in archive:
                 content = archive.extractfile(member) if member.isreg() and not member.issparse() else None
                 folder, _, name = member.name.partition("/")
-                if content is None or name not in NAMES - found.keys() or not re.fullmatch(pattern, folder):
-                    raise BadReport(f"it has an unexpected file: {member.name[:SHOWN]!r}")
-                found[name], pattern = content.read(), re.escape(folder)
+                if content is None or name not in MEMBER_NAMES - contents.keys() or not re.fullmatch(pattern, folder):
+                    raise BadReport(f"it has an unexpected file: {member.name[:MAX_SHOWN_TEXT]!r}")
+                contents[name], pattern = content.read(), re.escape(folder)
     except (EOFError, gzip.BadGzipFile, tarfile.TarError, ValueError, zlib.error) as error:
         raise BadReport(f"it is no report, or it is damaged: {error}") from error
-    if not {BASE, SCRIPT, EXPECTED} <= found.keys():
+    if not {BASE_FILE, SCRIPT_FILE, EXPECTED_FILE} <= contents.keys():
         raise BadReport("it has no script: README.txt in it says why")
-    return found
+    return contents
 
 
 def output_for(script: bytes, base: str, program: str) -> Iterator[bytes]:
@@ -62,15 +63,17 @@ def output_for(script: bytes, base: str, program: str) -> Iterator[bytes]:
 
 def replay(path: str, program: str) -> int:
     """Replays a report, prints how many lines are the same and the first difference, and returns the exit status."""
-    found = contents_of(path)
-    base = found[BASE].decode(errors="replace").strip()
+    contents = contents_of(path)
+    base = contents[BASE_FILE].decode(errors="replace").strip()
     if not is_base(base):
-        raise BadReport(f"{BASE} has no base ID")
-    same, lines = 0, io.BytesIO(found[EXPECTED])
-    for line, written in itertools.zip_longest(lines, output_for(found[SCRIPT], base, program), fillvalue=b""):
-        if line != written:
-            print(f"line {same + 1} of {EXPECTED} is {line[:SHOWN]!r}, but the replay writes {written[:SHOWN]!r}")
+        raise BadReport(f"{BASE_FILE} has no base ID")
+    same_lines, lines = 0, io.BytesIO(contents[EXPECTED_FILE])
+    for line, written_line in itertools.zip_longest(lines, output_for(contents[SCRIPT_FILE], base, program),
+                                                    fillvalue=b""):
+        if line != written_line:
+            print(f"line {same_lines + 1} of {EXPECTED_FILE} is {line[:MAX_SHOWN_TEXT]!r}, but the replay writes "
+                  f"{written_line[:MAX_SHOWN_TEXT]!r}")
             return 1
-        same += 1
-    print(f"{same} lines are the same")
+        same_lines += 1
+    print(f"{same_lines} lines are the same")
     return 0

@@ -14,13 +14,15 @@ from enogate_tools import esp3
 from enogate_tools.share import device_kind, texts_by_word
 
 MAX_SCRIPT, MAX_DEVICES, MAX_BYTES = 1 << 24, 1000, 99
-RESULTS = texts_by_word("result")
+RESULT_TEXTS = texts_by_word("result")
 # The type of the line that follows a packet line with this reason, and the counter of the packet.
-FOLLOWING = {"read": ("reading", "readings"), "response": ("response", "responses"), "refused": ("error", "refused"),
-             **dict.fromkeys(RESULTS, ("teach", "teach"))}
+FOLLOWING_BY_REASON = {"read": ("reading", "readings"), "response": ("response", "responses"),
+                       "refused": ("error", "refused"),
+                       **dict.fromkeys(RESULT_TEXTS, ("teach", "teach"))}
 # An order with this error as its answer. ID is one that no device has.
-FAULTY_ORDERS = {"too_long": "x" * 201, "syntax": "?", "range": "remove FFFFFFFF", "unknown_device": "remove ID",
-                 "unsupported_profile": "learn as 00-00-00", "full": "add ID D5-00-01"}
+FAULTY_ORDER_BY_ERROR = {"too_long": "x" * 201, "syntax": "?", "range": "remove FFFFFFFF",
+                         "unknown_device": "remove ID",
+                         "unsupported_profile": "learn as 00-00-00", "full": "add ID D5-00-01"}
 NO_DEVICE = "", None, ""
 Members = dict[str, Any]
 
@@ -33,26 +35,27 @@ class Script:
     """A script for the gateway with this base ID, and the lines that its replay has to write."""
 
     def __init__(self, base: str, unused_id: str):
-        self.base, self.unused_id, self.orders, self.expected, self.size = base, unused_id, list[str](), list[str](), 0
+        self.base, self.unused_id, self.orders = base, unused_id, list[str]()
+        self.expected_lines, self.size = list[str](), 0
         # The state of the replay: profile, maker and label of each device, the mode, and the counters.
         self.devices: dict[str, tuple[str, int | None, str]] = {}
         self.mode, self.counts = "closed", dict.fromkeys(COUNTERS, 0)
         # What the gateway had counted before; how many inputs there are; how many lines are left out; and how often the
         # counters of the gateway did not fit its packets.
-        self.before: dict[str, int] = {}
-        self.inputs = self.left_out = self.gaps = 0
+        self.counts_before: dict[str, int] = {}
+        self.input_count = self.left_out_count = self.gap_count = 0
 
     def append(self, order: str, lines: Sequence[Members] = ({"type": "ok"},)) -> None:
         """Appends an order or a packet, and its answer."""
         self.orders.append(order)
-        self.expected += map(json_line, lines)
+        self.expected_lines += map(json_line, lines)
         self.size += len(order)
 
     def take(self, lines: list[Members]) -> None:
         """Appends the order or the packet with this answer, and before it what sets the state for it."""
         match lines[0]:
-            case {"type": "packet", "why": why} if why != "refused" and self.size < MAX_SCRIPT:
-                order = self.packet_order(why, lines[0], lines[-1])
+            case {"type": "packet", "why": reason} if reason != "refused" and self.size < MAX_SCRIPT:
+                order = self.packet_order(reason, lines[0], lines[-1])
             case {"type": "device" | "list"} if lines[-1]["count"] == len(lines) - 1:
                 order = self.list_order(lines[:-1])
             case {"type": "teach", "result": "accepted", "maker": None, "id": device, "eep": eep}:
@@ -64,9 +67,9 @@ class Script:
                 order = f"remove {device}"
             case {"type": "status", "mode": mode, **counters}:
                 self.set_mode(mode)
-                before = {name: checked_count(counters[name]) - self.counts[name] for name in COUNTERS}
-                self.gaps += self.before not in ({}, before)
-                self.before, order = before, "status"
+                new_counts = {name: checked_count(counters[name]) - self.counts[name] for name in COUNTERS}
+                self.gap_count += self.counts_before not in ({}, new_counts)
+                self.counts_before, order = new_counts, "status"
                 lines[0].update(self.counts)
             case {"type": "ok"}:
                 order = "base"
@@ -75,57 +78,60 @@ class Script:
                 device, (eep, *_) = next(iter(self.devices.items()))
                 order = f"switch {device} 0 on" if eep.startswith("D2-05") else f"stop {device}"
             case {"type": "error", "error": error} if error != "full" or self.is_full_for(self.unused_id):
-                order = FAULTY_ORDERS[error].replace("ID", self.unused_id)
+                order = FAULTY_ORDER_BY_ERROR[error].replace("ID", self.unused_id)
             case _:
                 raise NotReplayed
         self.append(order, lines)
 
-    def packet_order(self, why: str, packet: Members, report: Members) -> str:
+    def packet_order(self, reason: str, packet: Members, report: Members) -> str:
         """The lines of the script with a packet. The report is the second line about it, or the only one."""
         if "rorg" in packet:
-            found = self.telegram(why, packet, report)
+            packet_bytes = self.telegram(reason, packet, report)
         else:
             size, kind = checked_number(packet["size"], 0, 0xFFFF), checked_number(packet["kind"], 0, MAX_BYTE)
-            data = bytes([report["code"]]) + bytes.fromhex(report["data"]) if why == "response" else bytes(size)
+            data = bytes([report["code"]]) + bytes.fromhex(report["data"]) if reason == "response" else bytes(size)
             if len(data) != size:
                 raise NotReplayed
             # A packet has data or optional data.
-            found = esp3.packet(kind, data, b"" if size else b"\0")
-        self.counts[FOLLOWING.get(why, ("", "ignored"))[1]] += 1
-        return "\n".join(f"S {found[at:at + MAX_BYTES].hex().upper()}" for at in range(0, len(found), MAX_BYTES))
+            packet_bytes = esp3.packet(kind, data, b"" if size else b"\0")
+        self.counts[FOLLOWING_BY_REASON.get(reason, ("", "ignored"))[1]] += 1
+        return "\n".join(f"S {packet_bytes[offset:offset + MAX_BYTES].hex().upper()}"
+                         for offset in range(0, len(packet_bytes), MAX_BYTES))
 
-    def telegram(self, why: str, packet: Members, report: Members) -> bytes:
+    def telegram(self, reason: str, packet: Members, report: Members) -> bytes:
         """The packet of a telegram."""
         device, rorg, payload = device_of(packet), packet["rorg"], bytes.fromhex(packet["payload"])
-        dest, mode = int(packet["dest"] or "FFFFFFFF", 16), mode_for(self.mode, why, packet, report)
-        found = esp3.telegram(int(rorg, 16), payload, int(device, 16), int(packet["status"], 16), dest, dbm_of(packet))
-        is_for_gateway = dest == esp3.BROADCAST_ID or dest & ~0x7F == int(self.base, 16)
-        if device_of(report) != device or why == "full" and not self.is_full_for(device) or (
-                why != "from_broadcast" and is_for_gateway == (why == "for_others")):
+        destination, mode = int(packet["dest"] or "FFFFFFFF", 16), mode_for(self.mode, reason, packet, report)
+        packet_bytes = esp3.telegram(int(rorg, 16), payload, int(device, 16), int(packet["status"], 16), destination,
+                                     dbm_of(packet))
+        is_for_gateway = destination == esp3.BROADCAST_ID or destination & ~0x7F == int(self.base, 16)
+        if device_of(report) != device or reason == "full" and not self.is_full_for(device) or (
+                reason != "from_broadcast" and is_for_gateway == (reason == "for_others")):
             raise NotReplayed
-        if why in ("read", "wrong_kind", "wrong_length", "other_message"):
+        if reason in ("read", "wrong_kind", "wrong_length", "other_message"):
             self.set_device(device, eep_of(packet), maker_of(packet))
-        elif why == "unknown_sender" or why == "accepted" and rorg in ("F6", "D2"):
+        elif reason == "unknown_sender" or reason == "accepted" and rorg in ("F6", "D2"):
             self.set_device(device)
         self.set_mode(mode)
-        if why == "accepted":
+        if reason == "accepted":
             self.learn(report)
             self.mode = "closed" if mode.startswith("as ") else mode
-        elif why == "deleted":
+        elif reason == "deleted":
             self.devices.pop(device, None)
-        return found
+        return packet_bytes
 
     def list_order(self, lines: Sequence[Members]) -> str:
         """The order for the list of all devices."""
-        listed = {device_of(line): (eep_of(line), maker_of(line), checked_text(line["label"], OPTIONAL_TEXT_PATTERN))
-                  for line in lines}
-        for device in [one for one in self.devices if one not in listed]:
+        listed_devices = {device_of(line): (eep_of(line), maker_of(line),
+                                            checked_text(line["label"], OPTIONAL_TEXT_PATTERN))
+                          for line in lines}
+        for device in [device_id for device_id in self.devices if device_id not in listed_devices]:
             self.set_device(device)
-        for device, known in listed.items():
-            self.set_device(device, *known[:2])
-            if known != self.devices[device]:
-                self.append(f"label {device} {known[2]}".rstrip())
-                self.devices[device] = known
+        for device, eep_maker_label in listed_devices.items():
+            self.set_device(device, *eep_maker_label[:2])
+            if eep_maker_label != self.devices[device]:
+                self.append(f"label {device} {eep_maker_label[2]}".rstrip())
+                self.devices[device] = eep_maker_label
         return "list"
 
     def is_full_for(self, device: str) -> bool:
@@ -141,17 +147,18 @@ class Script:
 
     def set_device(self, device: str, eep: str = "", maker: int | None = None) -> None:
         """Sets that this device is learned, or without a profile that it is not."""
-        old = self.devices.get(device, NO_DEVICE)[:2]
+        eep_and_maker = self.devices.get(device, NO_DEVICE)[:2]
         if eep and not device_kind(eep):
             raise NotReplayed
-        lines: list[Members] = [{"eep": eep or old[0], "id": device, "maker": maker if eep else old[1], "result":
+        lines: list[Members] = [{"eep": eep or eep_and_maker[0], "id": device,
+                                 "maker": maker if eep else eep_and_maker[1], "result":
                                  "accepted" if eep else "deleted", "type": "teach"}]
         if maker is not None:
             # A UTE query that waits for no reply.
             payload = b"\x40\0" + maker.to_bytes(2, "little") + bytes.fromhex(eep.replace("-", ""))[::-1]
             lines.insert(0, {"dbm": None, "dest": None, "eep": eep, "id": device, "maker": maker, "payload":
                              payload.hex().upper(), "rorg": "D4", "status": "00", "type": "packet", "why": "accepted"})
-        if old != (eep, maker):
+        if eep_and_maker != (eep, maker):
             self.take(lines)
 
     def set_mode(self, mode: str) -> None:
@@ -162,50 +169,50 @@ class Script:
             self.mode = mode
 
 
-def mode_for(now: str, why: str, packet: Members, report: Members) -> str:
+def mode_for(mode: str, reason: str, packet: Members, report: Members) -> str:
     """A mode in which a telegram has these lines: the mode now, if this is possible."""
-    rorg, modes = packet["rorg"], [now]
-    if why == "window_closed" or why == "unknown_sender" and now[3:5] == rorg:
+    rorg, modes = packet["rorg"], [mode]
+    if reason == "window_closed" or reason == "unknown_sender" and mode[3:5] == rorg:
         modes = ["closed"]
-    elif why == "other_mode" and (not now.startswith("as ") or now[3:5] == rorg):
+    elif reason == "other_mode" and (not mode.startswith("as ") or mode[3:5] == rorg):
         modes = ["as F6-01-01"]
-    elif why in ("accepted", "full"):
+    elif reason in ("accepted", "full"):
         # The telegram has the profile, or is that of a contact; or the order `learn as` has it.
         has_eep = rorg == "D4" or rorg == "A5" and int(packet["payload"], 16) & 0x80
         is_own = report["eep"] == ("D5-00-01" if rorg == "D5" else packet["eep"] if has_eep else "")
         modes = ["on", "answer"] * is_own + [f"as {report['eep']}"] * (rorg != "D4")
-    elif why in RESULTS:
+    elif reason in RESULT_TEXTS:
         modes = ["on", "answer"]
-    return now if now in modes else modes[0]
+    return mode if mode in modes else modes[0]
 
 
 def parsed(line: bytes) -> tuple[Members, Sequence[str]]:
     """A line as a gateway writes it, or one without a type; and the types that the next line of its input may have."""
     members: Members = {"type": None}
     with contextlib.suppress(BadLine):
-        found = members_of(line)
-        if json_line(found).encode() == line and isinstance(found.get("why", ""), str):
-            members = found
-    why = members.get("why")
-    following = ("device", "list") if members["type"] == "device" else ()
-    return members, FOLLOWING[why][:1] if why in FOLLOWING else following
+        parsed_members = members_of(line)
+        if json_line(parsed_members).encode() == line and isinstance(parsed_members.get("why", ""), str):
+            members = parsed_members
+    reason = members.get("why")
+    following_types = ("device", "list") if members["type"] == "device" else ()
+    return members, FOLLOWING_BY_REASON[reason][:1] if reason in FOLLOWING_BY_REASON else following_types
 
 
 def script_of(lines: Iterable[bytes], base: str, unused_id: str) -> Script:
     """The script for these lines. No device has the unused ID."""
-    script, group, following = Script(base, unused_id), list[Members](), ()
+    script, group, following_types = Script(base, unused_id), list[Members](), ()
     for line, types in map(parsed, lines):
-        if group and line["type"] not in following:
-            script.left_out += len(group)
+        if group and line["type"] not in following_types:
+            script.left_out_count += len(group)
             group = []
         group.append(line)
-        if following := types:
+        if following_types := types:
             continue
         try:
             script.take(group)
-            script.inputs += 1
+            script.input_count += 1
         except (NotReplayed, LookupError, OverflowError, StopIteration, TypeError, ValueError):
-            script.left_out += len(group)
+            script.left_out_count += len(group)
         group = []
-    script.left_out += len(group)
+    script.left_out_count += len(group)
     return script

@@ -52,41 +52,41 @@ def is_irregular(path: str) -> bool:
     return not stat.S_ISREG(status.st_mode) or status.st_nlink > 1
 
 
-def copy_if_small(path: str, new: str) -> bool:
+def copy_if_small(path: str, copy_path: str) -> bool:
     """Copies a file of the service, as long as it is now. Returns whether it is small enough for that."""
-    with os.fdopen(files.open_file(path), "rb") as old, open(new, "wb") as made:
-        size = os.fstat(old.fileno()).st_size
+    with os.fdopen(files.open_file(path), "rb") as source, open(copy_path, "wb") as copy:
+        size = os.fstat(source.fileno()).st_size
         if size > MAX_COPY_SIZE:
             return False
-        while size and (part := old.read(min(size, MEGABYTE))):
-            made.write(part)
-            size -= len(part)
+        while size and (chunk := source.read(min(size, MEGABYTE))):
+            copy.write(chunk)
+            size -= len(chunk)
     return True
 
 
 def settings_in(text: str) -> dict[str, str]:
     """The settings in a file, as systemd reads them (systemd.exec(5), EnvironmentFile=): a comment is a line of its
     own. If a quotation mark has no partner, its line is the value, and the rest of the file is not read."""
-    found, place = {}, 0
-    while (place := BLANKS_AND_COMMENTS_PATTERN.match(text, place).end()) < len(text):
-        key, value = KEY_PATTERN.match(text, place), ""
-        place = key.end()
+    settings, offset = {}, 0
+    while (offset := BLANKS_AND_COMMENTS_PATTERN.match(text, offset).end()) < len(text):
+        key, value = KEY_PATTERN.match(text, offset), ""
+        offset = key.end()
         if key[2] != "=":
             continue
-        while quoted := QUOTED_VALUE_PATTERN.match(text, place):
+        while quoted := QUOTED_VALUE_PATTERN.match(text, offset):
             value += re.sub(r'\\(["\\`$\n])', unescaped_character, quoted[2]) if quoted[1] is None else quoted[1]
-            place = quoted.end()
-        plain = PLAIN_VALUE_PATTERN.match(text, place)
-        place = plain.end()
+            offset = quoted.end()
+        plain = PLAIN_VALUE_PATTERN.match(text, offset)
+        offset = plain.end()
         if plain[1][:1] in ("'", '"'):
-            return {**found, key[1]: plain[1]}
-        found[key[1]] = value + re.sub(r"(?s)\\(.?)", unescaped_character, plain[1])
-    return found
+            return {**settings, key[1]: plain[1]}
+        settings[key[1]] = value + re.sub(r"(?s)\\(.?)", unescaped_character, plain[1])
+    return settings
 
 
-def unescaped_character(found: re.Match) -> str:
+def unescaped_character(match: re.Match) -> str:
     """A character that follows a backslash. The end of a line is left out: the value continues in the next one."""
-    return found[1].strip("\n")
+    return match[1].strip("\n")
 
 
 class Check:
@@ -100,8 +100,8 @@ class Check:
         self.start = system.main_process(os.path.dirname(self.desk))
         self.settings = {"BASE": "", "SERIAL": "/dev/enocean", "TURNS": "864000", "EXPLAIN": ""}
         # The files that have them.
-        self.sources: dict[str, str] = {}
-        self.restart = f"run: sudo systemctl restart enogate@{name}"
+        self.source_by_key: dict[str, str] = {}
+        self.restart_advice = f"run: sudo systemctl restart enogate@{name}"
         # Whether an order reaches the gateway, as far as this can be seen.
         self.takes_orders = False
 
@@ -112,101 +112,103 @@ class Check:
                   "disk space": self.check_space, "base ID": self.check_base,
                   "earlier base ID": self.check_earlier_base, "lines": self.check_lines,
                   "database": self.check_database, "units": self.check_units}
-        for what, check in checks.items():
+        for subject, check in checks.items():
             try:
                 yield from check()
             except OSError as error:
-                yield self.failure_finding(what, error)
+                yield self.failure_finding(subject, error)
 
-    def failure_finding(self, what: str, error: OSError):
+    def failure_finding(self, subject: str, error: OSError):
         """The finding that this check failed."""
         if not error.filename:
-            return FAULT, f"the check of the {what} failed: {error.strerror or error}"
+            return FAULT, f"the check of the {subject} failed: {error.strerror or error}"
         if isinstance(error, PermissionError):
             return self.unchecked_finding(f"permission denied for {error.filename}")
         return FAULT, f"{error.filename} cannot be read: {error.strerror}"
 
-    def unchecked_finding(self, what: str):
+    def unchecked_finding(self, subject: str):
         """The finding that this could not be checked, and why."""
         if self.system.is_root:
-            return UNCHECKED, f"{what}: not even root may see this here, for example because this is a container"
-        return UNCHECKED, f"{what}: run enogate-check as root"
+            return UNCHECKED, f"{subject}: not even root may see this here, for example because this is a container"
+        return UNCHECKED, f"{subject}: run enogate-check as root"
 
     def check_settings(self):
         """The settings of the gateway, which override those of all."""
-        of_all, own = (self.system.path(f"/etc/default/enogate{end}") for end in ("", f"-{self.name}"))
-        for path in (of_all, own) if exists(own) else (of_all,):
+        common_path, own_path = (self.system.path(f"/etc/default/enogate{file_end}")
+                                 for file_end in ("", f"-{self.name}"))
+        for path in (common_path, own_path) if exists(own_path) else (common_path,):
             with open(path, encoding="utf-8", errors="replace") as file:
                 for key, value in settings_in(file.read()).items():
-                    self.settings[key], self.sources[key] = value, path
-        if commented := [key for key in ("BASE", "SERIAL", "TURNS", "EXPLAIN") if "#" in self.settings[key]]:
-            for key in commented:
+                    self.settings[key], self.source_by_key[key] = value, path
+        if commented_keys := [key for key in ("BASE", "SERIAL", "TURNS", "EXPLAIN") if "#" in self.settings[key]]:
+            for key in commented_keys:
                 yield FAULT, (f"{key}={self.settings[key]} has a comment after the value, which is part of the value "
-                              f"for systemd: write the comment on a line of its own in {self.sources[key]}")
+                              f"for systemd: write the comment on a line of its own in {self.source_by_key[key]}")
             return
         yield from self.check_values()
 
     def check_values(self):
         """The values of the settings."""
-        where = f"correct it in /etc/default/enogate-{self.name}"
+        advice = f"correct it in /etc/default/enogate-{self.name}"
         base, turns = self.settings["BASE"], self.settings["TURNS"]
         if base and not ports.is_base(base):
-            yield FAULT, f"BASE={base} is not a base ID ({ports.BASE_FORM}): {where}, or remove it"
+            yield FAULT, f"BASE={base} is not a base ID ({ports.BASE_FORM}): {advice}, or remove it"
         if not (turns.isdecimal() and 1 <= int(turns) <= 4294967295):
-            yield FAULT, f"TURNS={turns} is not a number from 1 to 4294967295: {where}"
+            yield FAULT, f"TURNS={turns} is not a number from 1 to 4294967295: {advice}"
         if self.settings["EXPLAIN"] not in ("", "--explain"):
-            yield FAULT, f"EXPLAIN={self.settings['EXPLAIN']} is neither empty nor --explain: {where}"
+            yield FAULT, f"EXPLAIN={self.settings['EXPLAIN']} is neither empty nor --explain: {advice}"
         yield OK, f"settings: BASE={base} SERIAL={self.settings['SERIAL']} TURNS={turns}"
 
     def check_port(self):
         """The serial port."""
-        path, where = self.settings["SERIAL"], f"SERIAL in /etc/default/enogate-{self.name}"
+        path, setting_place = self.settings["SERIAL"], f"SERIAL in /etc/default/enogate-{self.name}"
         if not path:
-            yield FAULT, f"no port is set: set {where}"
+            yield FAULT, f"no port is set: set {setting_place}"
         elif not exists(path):
-            yield FAULT, f"no stick at {path}: plug it in, or correct {where}"
+            yield FAULT, f"no stick at {path}: plug it in, or correct {setting_place}"
         elif not stat.S_ISCHR(os.stat(path).st_mode):
-            yield FAULT, f"{path} is not a serial port: correct {where}"
+            yield FAULT, f"{path} is not a serial port: correct {setting_place}"
         else:
-            yield from self.check_node(path, where)
+            yield from self.check_node(path, setting_place)
 
-    def check_node(self, path: str, where: str):
-        """The node of the port: rights, other users, and the lock or the settings of the line. `where` is its
+    def check_node(self, path: str, setting_place: str):
+        """The node of the port: rights, other users, and the lock or the settings of the line. `setting_place` is its
         setting."""
         if not self.system.may_access(path, 6):
             yield FAULT, (f"the user enogate may not read and write {path}: give it to the group dialout, for example "
                           f"with a udev rule, or run: sudo chgrp dialout {path} && sudo chmod 660 {path}")
         users, sees_all = self.system.users_of(path)
-        own = {self.gateway, self.start}
-        others = sorted({*users, *self.system.lockers_of(path)} - own, key=lambda user: user.number)
-        for user in others:
+        own_processes = {self.gateway, self.start}
+        other_processes = sorted({*users, *self.system.lockers_of(path)} - own_processes, key=lambda user: user.number)
+        for user in other_processes:
             yield FAULT, (f"{user} uses {path} too, and each program receives only part of the data: end it, or "
-                          f"correct {where}")
+                          f"correct {setting_place}")
         if not sees_all:
             yield self.unchecked_finding(f"programs of other users that use {path} without a lock")
         if self.gateway:
             yield from self.check_line(path)
         elif self.start:
             yield FAULT, NOT_STARTED.format(self.name)
-        elif not others:
+        elif not other_processes:
             yield from self.check_module(path)
 
     def check_line(self, path: str):
         """The settings of the line that a running gateway uses."""
         port = os.open(path, os.O_RDONLY | os.O_NOCTTY | os.O_NONBLOCK)
         try:
-            wrong = ports.wrong_settings(port)
+            wrong_flags = ports.wrong_settings(port)
         finally:
             os.close(port)
-        if wrong:
-            yield FAULT, f"another program changed the settings of {path} ({', '.join(wrong)}); {self.restart}"
+        if wrong_flags:
+            flags = ", ".join(wrong_flags)
+            yield FAULT, f"another program changed the settings of {path} ({flags}); {self.restart_advice}"
         else:
             yield OK, f"port: {path}, used by {self.gateway}"
 
     def check_module(self, path: str):
         """The base ID of the module at a free port."""
         try:
-            reported = ports.module_base(path)
+            reported_base = ports.module_base(path)
         except ports.PortError as error:
             if isinstance(error.__cause__, PermissionError):
                 yield self.unchecked_finding(f"the radio module at {path}")
@@ -214,13 +216,13 @@ class Check:
                 yield FAULT, str(error)
             return
         base = self.settings["BASE"].upper()
-        if not reported:
+        if not reported_base:
             yield FAULT, ports.NO_MODULE.format(path)
-        elif base not in ("", reported):
-            yield FAULT, (f"BASE is {base}, but the base ID of the radio module at {path} is {reported}: correct it in "
-                          f"/etc/default/enogate-{self.name}, or remove it")
+        elif base not in ("", reported_base):
+            yield FAULT, (f"BASE is {base}, but the base ID of the radio module at {path} is {reported_base}: "
+                          f"correct it in /etc/default/enogate-{self.name}, or remove it")
         else:
-            yield OK, f"port: {path}, with a radio module whose base ID is {reported}"
+            yield OK, f"port: {path}, with a radio module whose base ID is {reported_base}"
 
     def check_desk(self):
         """The desk, compared with what the running gateway has open."""
@@ -241,15 +243,16 @@ class Check:
             held = self.held_desk(self.system.open_files(self.gateway) or [])
         if not held:
             yield FAULT, (f"the desk {self.desk} was replaced or deleted, for example by an editor: no order reaches "
-                          f"the gateway, which reads the old file; {self.restart}, and give the orders again, with >>")
+                          f"the gateway, which reads the old file; {self.restart_advice}, and give the orders again, "
+                          "with >>")
             return
         offset, size = held.offset, held.status.st_size
         if offset > size:
             yield FAULT, (f"the desk {self.desk} was truncated (> in place of >>): the next {offset - size} bytes of "
-                          f"orders are lost; {self.restart}, and give the orders again, with >>")
+                          f"orders are lost; {self.restart_advice}, and give the orders again, with >>")
         elif offset < size and self.is_stuck(held.number, offset):
             yield FAULT, (f"the gateway does not read the desk: {size - offset} bytes of orders are waiting, perhaps "
-                          f"because the radio module accepts no data; {self.restart}")
+                          f"because the radio module accepts no data; {self.restart_advice}")
         else:
             self.takes_orders = True
             yield OK, f"desk: {self.desk}, read up to byte {offset} of {size}"
@@ -259,13 +262,13 @@ class Check:
         desk = os.stat(self.desk) if exists(self.desk) else None
         if not desk or not stat.S_ISREG(desk.st_mode):
             return None
-        read = (file for file in files if file.number > 2 and file.is_read_only)
-        return next((file for file in read if is_same_file(file.status, desk)), None)
+        read_files = (file for file in files if file.number > 2 and file.is_read_only)
+        return next((file for file in read_files if is_same_file(file.status, desk)), None)
 
-    def is_stuck(self, number: int, offset: int) -> bool:
+    def is_stuck(self, file_number: int, offset: int) -> bool:
         """Whether the gateway has read nothing from the desk for two seconds."""
         self.sleep(2)
-        return any(file.number == number and file.offset == offset
+        return any(file.number == file_number and file.offset == offset
                    for file in self.system.open_files(self.gateway) or [])
 
     def check_base(self):
@@ -274,21 +277,21 @@ class Check:
         if not self.takes_orders:
             return
         module = f"the radio module at {self.settings['SERIAL']}"
-        used = self.system.option_value(self.gateway, "--base").upper()
+        used_base = self.system.option_value(self.gateway, "--base").upper()
         if not (self.system.is_root or os.access(self.desk, os.W_OK) and os.access(self.lines, os.R_OK)):
             yield self.unchecked_finding(f"the base ID of {module}")
             return
-        reported = self.system.run(["enogatectl", "--timeout", ASK_TIMEOUT, self.name, "base"])
-        if not ports.is_base(reported):
+        answer = self.system.run(["enogatectl", "--timeout", ASK_TIMEOUT, self.name, "base"])
+        if not ports.is_base(answer):
             yield FAULT, (f"{module} did not report its base ID within {ASK_TIMEOUT} s: after noise, the gateway may "
-                          f"be waiting for the end of a packet, or SERIAL is wrong; {self.restart}")
-        elif reported != used:
-            is_set = self.settings["BASE"].upper() not in ("", reported)
+                          f"be waiting for the end of a packet, or SERIAL is wrong; {self.restart_advice}")
+        elif answer != used_base:
+            is_set = self.settings["BASE"].upper() not in ("", answer)
             correct = f"correct or remove BASE in /etc/default/enogate-{self.name}, and " if is_set else ""
-            yield FAULT, (f"the gateway uses the base ID {used}, but that of {module} is {reported}: {correct}"
-                          f"{self.restart}")
+            yield FAULT, (f"the gateway uses the base ID {used_base}, but that of {module} is {answer}: {correct}"
+                          f"{self.restart_advice}")
         else:
-            yield OK, f"base ID: {used}, as {module} reports"
+            yield OK, f"base ID: {used_base}, as {module} reports"
 
     def check_earlier_base(self):
         """The base ID that a running gateway uses, compared with that of its first start, if no base ID is set."""
@@ -299,10 +302,10 @@ class Check:
             yield from faults
             return
         with os.fdopen(files.open_file(path), encoding="ascii", errors="replace") as file:
-            earlier = file.read(9).strip()
-        used = self.system.option_value(self.gateway, "--base").upper()
-        if why := ports.other_stick_fault(earlier, used, self.settings["SERIAL"]):
-            yield FAULT, why
+            earlier_base = file.read(9).strip()
+        used_base = self.system.option_value(self.gateway, "--base").upper()
+        if fault := ports.other_stick_fault(earlier_base, used_base, self.settings["SERIAL"]):
+            yield FAULT, fault
 
     def irregularity_faults(self, *paths: str):
         """The faults of files that are no regular files with one name. They are not opened: root could open a file of
@@ -339,7 +342,7 @@ class Check:
 
     def check_database(self):
         """The database: rights, users, and contents."""
-        if faults := self.irregularity_faults(*(self.database + end for end in ("", "-wal", "-shm"))):
+        if faults := self.irregularity_faults(*(self.database + file_end for file_end in ("", "-wal", "-shm"))):
             yield from faults
             return
         faults = self.rights_faults("read and write", (os.path.dirname(self.database), 7), (self.database, 6),
@@ -351,14 +354,15 @@ class Check:
         if faults and not all(map(files.is_safe, self.database_files())):
             return
         users, sees_all = self.system.users_of(self.database)
-        others = sorted({*users, *self.system.lockers_of(self.database)} - {self.gateway}, key=lambda user: user.number)
-        for user in others:
+        other_processes = sorted({*users, *self.system.lockers_of(self.database)} - {self.gateway},
+                                 key=lambda user: user.number)
+        for user in other_processes:
             yield FAULT, f"{user} uses the database {self.database}: end it"
-        if not sees_all and not others:
+        if not sees_all and not other_processes:
             yield self.unchecked_finding(f"programs of other users that use {self.database}")
         if self.gateway:
             yield OK, f"database: {self.database}, used by {self.gateway}"
-        elif not others:
+        elif not other_processes:
             yield self.check_contents()
 
     def database_files(self) -> list[str]:
@@ -395,16 +399,16 @@ class Check:
 
     def check_space(self):
         """The disk space for the database and the lines."""
-        for path, least in MIN_SPACE.items():
+        for path, min_space in MIN_SPACE.items():
             # It may be a file system of its own. The sandbox of the unit makes the folders above it read-only.
             folder = self.system.path(f"{path}/enogate")
             is_made = exists(folder)
-            found = os.statvfs(folder if is_made else self.system.path(path))
-            if is_made and found.f_flag & os.ST_RDONLY:
+            status = os.statvfs(folder if is_made else self.system.path(path))
+            if is_made and status.f_flag & os.ST_RDONLY:
                 yield FAULT, f"{path}/enogate is on a read-only file system: look for errors of the disk with dmesg"
-            free = found.f_bavail * found.f_frsize
-            if free < least or (found.f_files and not found.f_favail):
-                yield FAULT, (f"the file system of {path}/enogate has {free // 1024} KB and {found.f_favail} inodes "
+            free = status.f_bavail * status.f_frsize
+            if free < min_space or (status.f_files and not status.f_favail):
+                yield FAULT, (f"the file system of {path}/enogate has {free // 1024} KB and {status.f_favail} inodes "
                               "left: delete files there")
             else:
                 yield OK, f"disk space: {free // MEGABYTE} MB for {path}/enogate"
@@ -412,21 +416,21 @@ class Check:
     def check_units(self):
         """Whether the gateway and, if it is enabled, its bridge run."""
         unit, bridge = f"enogate@{self.name}", f"enogate-mqtt@{self.name}"
-        state = self.system.unit_state(unit)
-        if not state:
+        unit_state = self.system.unit_state(unit)
+        if not unit_state:
             yield UNCHECKED, f"whether {unit} and {bridge} run: systemctl does not answer"
             return
-        if state in ("inactive", "failed") and not self.gateway:
-            yield FAULT, f"{unit} is not running ({state}): run: sudo systemctl start {unit}"
-        elif state == "active" and not self.gateway:
+        if unit_state in ("inactive", "failed") and not self.gateway:
+            yield FAULT, f"{unit} is not running ({unit_state}): run: sudo systemctl start {unit}"
+        elif unit_state == "active" and not self.gateway:
             yield FAULT, f"{unit} is waiting, for a reason that this command prints: sudo journalctl -n 20 -u {unit}"
         else:
-            yield OK, f"{unit} is {state}"
-        enabled, state = self.system.unit_state(bridge, "is-enabled"), self.system.unit_state(bridge)
-        if state == "failed" or (enabled == "enabled" and state == "inactive"):
-            yield FAULT, f"{bridge} is not running ({state}): run: sudo journalctl -n 20 -u {bridge}"
+            yield OK, f"{unit} is {unit_state}"
+        enabled_state, unit_state = self.system.unit_state(bridge, "is-enabled"), self.system.unit_state(bridge)
+        if unit_state == "failed" or (enabled_state == "enabled" and unit_state == "inactive"):
+            yield FAULT, f"{bridge} is not running ({unit_state}): run: sudo journalctl -n 20 -u {bridge}"
         else:
-            yield OK, f"{bridge} is {state}"
+            yield OK, f"{bridge} is {unit_state}"
 
 
 def main(arguments: list[str] | None = None, system: System | None = None) -> int:
@@ -445,16 +449,16 @@ def main(arguments: list[str] | None = None, system: System | None = None) -> in
     if words.name is not None and not gateways.is_name(words.name):
         parser.error(str(gateways.InvalidName(words.name)))
     system = system or System()
-    if words.name and (why := gateways.why_unknown(gateways.paths_of(words.name, system.root), system.root)):
-        parser.error(why)
+    if words.name and (reason := gateways.why_unknown(gateways.paths_of(words.name, system.root), system.root)):
+        parser.error(reason)
     names = gateways.gateway_names(system.root) if words.name is None else [words.name]
     if not names:
         parser.error("no gateway is found on this machine: give a NAME")
-    shown = {FAULT} | ({UNCHECKED} if not words.quiet else set()) | ({OK} if words.verbose else set())
+    shown_kinds = {FAULT} | ({UNCHECKED} if not words.quiet else set()) | ({OK} if words.verbose else set())
     is_faulty = False
     for name in names:
         for kind, text in Check(name, system).findings():
             is_faulty |= kind == FAULT
-            if kind in shown:
+            if kind in shown_kinds:
                 print(f"{name}: {'' if kind == FAULT else kind + ': '}{text}", flush=True)
     return int(is_faulty)

@@ -27,9 +27,9 @@ def make_empty(path: str) -> int:
     Returns how many bytes were in it."""
     size = 0
     with contextlib.suppress(FileNotFoundError):
-        found = os.lstat(path)
-        size = found.st_size
-        if not stat.S_ISREG(found.st_mode) or found.st_uid != os.geteuid():
+        status = os.lstat(path)
+        size = status.st_size
+        if not stat.S_ISREG(status.st_mode) or status.st_uid != os.geteuid():
             os.unlink(path)
     flags = os.O_WRONLY | os.O_CREAT | os.O_TRUNC | os.O_NOFOLLOW | os.O_NONBLOCK | os.O_CLOEXEC
     file = os.open(path, flags, DESK_MODE)
@@ -43,8 +43,8 @@ def make_empty(path: str) -> int:
 def write_orders(file: int, text: bytes) -> bool:
     """Writes a text to a desk in a single write. Returns whether all of it was written. If the last line was not, it is
     made invalid; if there is no space for that, the program that writes next does it."""
-    written = os.write(file, text)
-    if 0 < written < len(text) and text[written - 1:written] != b"\n":
+    written_size = os.write(file, text)
+    if 0 < written_size < len(text) and text[written_size - 1:written_size] != b"\n":
         with contextlib.suppress(OSError):
             os.write(file, INVALID_END)
-    return written == len(text)
+    return written_size == len(text)

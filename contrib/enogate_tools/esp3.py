@@ -9,11 +9,11 @@ RADIO_ERP1, RESPONSE, COMMON_COMMAND = 1, 2, 5
 BROADCAST_ID = 0xFFFFFFFF
 
 
-def crc8_after(value: int) -> int:
+def crc8_after(crc: int) -> int:
     """The CRC after one byte, which is combined with the CRC before it."""
     for _ in range(8):
-        value = value << 1 & 0xFF ^ (0x07 if value & 0x80 else 0)
-    return value
+        crc = crc << 1 & 0xFF ^ (0x07 if crc & 0x80 else 0)
+    return crc
 
 
 CRC8_TABLE = bytes(map(crc8_after, range(256)))
@@ -21,10 +21,10 @@ CRC8_TABLE = bytes(map(crc8_after, range(256)))
 
 def crc8(data: bytes) -> int:
     """The CRC of ESP3, with the polynomial x^8 + x^2 + x + 1."""
-    value = 0
+    crc = 0
     for byte in data:
-        value = CRC8_TABLE[value ^ byte]
-    return value
+        crc = CRC8_TABLE[crc ^ byte]
+    return crc
 
 
 def packet(kind: int, data: bytes, optional: bytes = b"") -> bytes:

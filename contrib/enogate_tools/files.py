@@ -14,8 +14,8 @@ OPEN_FLAGS = os.O_NOFOLLOW | os.O_NONBLOCK | os.O_NOCTTY | os.O_CLOEXEC
 class Unsafe(OSError):
     """A file is not opened. `strerror` says why."""
 
-    def __init__(self, why: str, path: str):
-        super().__init__(errno.EINVAL, why, path)
+    def __init__(self, reason: str, path: str):
+        super().__init__(errno.EINVAL, reason, path)
 
 
 def safety_fault(status: os.stat_result, owner: int) -> str:
@@ -74,8 +74,8 @@ def open_regular(path: str) -> int:
 
 def require_safe(status: os.stat_result, owner: int, path: str) -> None:
     """Raises Unsafe if a file with this status is not opened."""
-    if why := safety_fault(status, owner):
-        raise Unsafe(why, path)
+    if fault := safety_fault(status, owner):
+        raise Unsafe(fault, path)
 
 
 def is_safe(path: str) -> bool:

@@ -50,26 +50,26 @@ def paths_of(name: str, root: str = "") -> Paths:
 
 def all_paths(root: str = "") -> dict[str, dict[str, str]]:
     """The files of each gateway of this machine, by their names. Each of these files may be missing."""
-    every = (paths_of(name, root) for name in gateway_names(root))
+    paths_of_names = (paths_of(name, root) for name in gateway_names(root))
     return {paths.name: {"desk": paths.desk, "lines": paths.lines,
-                         "settings": f"{root}{SETTINGS_FOLDER}/enogate-{paths.name}"} for paths in every}
+                         "settings": f"{root}{SETTINGS_FOLDER}/enogate-{paths.name}"} for paths in paths_of_names}
 
 
 def gateway_names(root: str = "") -> list[str]:
     """The names of the gateways that may be started, and of those that have a desk: its directory may also be that of a
     unit that was not started. A directory that this user may not read counts as empty. `root` is put before all."""
-    started = names_in_folder(root + RUNTIME_FOLDER, "({})", lambda folder: os.path.lexists(f"{folder}/desk"))
-    return sorted(startable_names(root) | started)
+    started_names = names_in_folder(root + RUNTIME_FOLDER, "({})", lambda folder: os.path.lexists(f"{folder}/desk"))
+    return sorted(startable_names(root) | started_names)
 
 
 def startable_names(root: str = "") -> set[str]:
     """The names of the gateways that have settings of their own, a database, or a unit that is started at boot."""
-    found = names_in_folder(root + SETTINGS_FOLDER, "enogate-({})", os.path.isfile)
-    found |= names_in_folder(root + DATABASE_FOLDER, r"({})\.db")
+    names = names_in_folder(root + SETTINGS_FOLDER, "enogate-({})", os.path.isfile)
+    names |= names_in_folder(root + DATABASE_FOLDER, r"({})\.db")
     for folder in file_names(root + UNITS_FOLDER):
         if folder.endswith(".wants"):
-            found |= names_in_folder(f"{root}{UNITS_FOLDER}/{folder}", r"enogate@({})\.service")
-    return found
+            names |= names_in_folder(f"{root}{UNITS_FOLDER}/{folder}", r"enogate@({})\.service")
+    return names
 
 
 def why_unknown(paths: Paths, root: str = "") -> str:
@@ -78,26 +78,27 @@ def why_unknown(paths: Paths, root: str = "") -> str:
     return "" if has_files else why_not_among(paths.name, gateway_names(root))
 
 
-def why_not_among(name: str, known: list[str]) -> str:
+def why_not_among(name: str, known_names: list[str]) -> str:
     """A sentence if these gateways do not have the one with this name; otherwise empty."""
-    if name in known:
+    if name in known_names:
         return ""
     if not is_name(name):
         return str(InvalidName(name))
     from difflib import get_close_matches
     make = f"sudo systemctl enable --now enogate@{name}"
-    if similar := get_close_matches(name.lower(), {one.lower(): one for one in known}, 1):
-        meant = next(one for one in known if one.lower() == similar[0])
+    if similar := get_close_matches(name.lower(), {known_name.lower(): known_name for known_name in known_names}, 1):
+        meant = next(known_name for known_name in known_names if known_name.lower() == similar[0])
         return f"there is no gateway {name}: did you mean {meant}? If not, make it: {make}"
-    others = f"the gateways of this machine are {', '.join(known)}" if known else "this machine has none"
-    return f"there is no gateway {name}: {others}; to make it, enable it: {make}"
+    names_text = (f"the gateways of this machine are {', '.join(known_names)}"
+                  if known_names else "this machine has none")
+    return f"there is no gateway {name}: {names_text}; to make it, enable it: {make}"
 
 
-def names_in_folder(folder: str, shape: str, is_of_gateway: Callable[[str], bool] = os.path.lexists) -> set[str]:
-    """The gateways whose names are part of the names of files in this directory. `shape` is the form of these names."""
-    pattern = shape.format(NAME_PATTERN)
-    return {found[1] for file in file_names(folder)
-            if (found := re.fullmatch(pattern, file)) and is_of_gateway(f"{folder}/{file}")}
+def names_in_folder(folder: str, form: str, is_of_gateway: Callable[[str], bool] = os.path.lexists) -> set[str]:
+    """The gateways whose names are part of the names of files in this directory. `form` is the form of these names."""
+    pattern = form.format(NAME_PATTERN)
+    return {match[1] for file in file_names(folder)
+            if (match := re.fullmatch(pattern, file)) and is_of_gateway(f"{folder}/{file}")}
 
 
 def file_names(folder: str) -> list[str]:

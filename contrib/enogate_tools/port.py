@@ -22,7 +22,7 @@ NO_MODULE = "no radio module answers at {}: check that this is its port, and tha
 
 # The settings as stty prints them: the line of the guide sets the same ones.
 REQUIRED_C_CC = {"min 0": (termios.VMIN, 0), "time 1": (termios.VTIME, 1)}
-REQUIRED_OFF = {
+FLAGS_REQUIRED_OFF = {
     "icrnl": (0, termios.ICRNL), "inlcr": (0, termios.INLCR), "igncr": (0, termios.IGNCR),
     "istrip": (0, termios.ISTRIP), "ixon": (0, termios.IXON), "ixoff": (0, termios.IXOFF),
     "opost": (1, termios.OPOST), "cstopb": (2, termios.CSTOPB), "parenb": (2, termios.PARENB),
@@ -33,7 +33,7 @@ REQUIRED_OFF = {
 
 # How long the end of a run waits for the stick to take what was sent to it, in seconds. 4 KB, the most that the kernel
 # holds for a USB stick, take 0.7 s.
-SEND_TIMEOUT, PAUSE = 1.0, 0.1
+SEND_TIMEOUT, CLOSE_PAUSE = 1.0, 0.1
 
 
 class PortError(Exception):
@@ -58,9 +58,9 @@ def other_stick_fault(earlier: str, base: str, path: str) -> str:
 
 def base_in(stream: bytes) -> str | None:
     """The base ID in the first response of the module that has one. Other packets are skipped."""
-    for _, kind, data, _ in packets_in(stream):
-        base = data[1:].hex().upper()
-        if kind == RESPONSE and data[:1] == b"\0" and is_base(base):
+    for _, kind, packet_data, _ in packets_in(stream):
+        base = packet_data[1:].hex().upper()
+        if kind == RESPONSE and packet_data[:1] == b"\0" and is_base(base):
             return base
     return None
 
@@ -92,11 +92,11 @@ def configure(port: int, path: str) -> None:
     one stop bit, no flow control, raw, and a read that returns after 0.1 s even if no data arrives. What came before is
     dropped: it could be the answer to a question of a start that was stopped."""
     try:
-        old = termios.tcgetattr(port)
-        for place, value in REQUIRED_C_CC.values():
-            old[6][place] = value
-        flags = termios.CS8 | termios.CREAD | termios.CLOCAL | old[2] & termios.HUPCL
-        termios.tcsetattr(port, termios.TCSANOW, [0, 0, flags, 0, termios.B57600, termios.B57600, old[6]])
+        attributes = termios.tcgetattr(port)
+        for index, value in REQUIRED_C_CC.values():
+            attributes[6][index] = value
+        flags = termios.CS8 | termios.CREAD | termios.CLOCAL | attributes[2] & termios.HUPCL
+        termios.tcsetattr(port, termios.TCSANOW, [0, 0, flags, 0, termios.B57600, termios.B57600, attributes[6]])
         termios.tcflush(port, termios.TCIFLUSH)
     except termios.error as error:
         raise PortError(f"{path} is not a serial port: correct SERIAL") from error
@@ -104,24 +104,25 @@ def configure(port: int, path: str) -> None:
 
 def wrong_settings(port: int) -> list[str]:
     """The settings of an open port that keep a gateway from working, as stty prints them."""
-    now = termios.tcgetattr(port)
-    wrong = [name for name, (part, bit) in REQUIRED_OFF.items() if now[part] & bit]
-    wrong += ["-clocal"] * (not now[2] & termios.CLOCAL) + ["not cs8"] * (now[2] & termios.CSIZE != termios.CS8)
-    wrong += ["not 57600 baud"] * (now[4:6] != [termios.B57600] * 2)
-    return wrong + [f"not {name}" for name, (place, value) in REQUIRED_C_CC.items() if now[6][place] not in
-                    (value, bytes([value]))]
+    attributes = termios.tcgetattr(port)
+    wrong_flags = [name for name, (index, bit) in FLAGS_REQUIRED_OFF.items() if attributes[index] & bit]
+    wrong_flags += ["-clocal"] * (not attributes[2] & termios.CLOCAL) + ["not cs8"] * (attributes[2] & termios.CSIZE
+                                                                                       != termios.CS8)
+    wrong_flags += ["not 57600 baud"] * (attributes[4:6] != [termios.B57600] * 2)
+    return wrong_flags + [f"not {name}" for name, (index, value) in REQUIRED_C_CC.items() if attributes[6][index] not in
+                          (value, bytes([value]))]
 
 
 def ask_base(port: int, path: str, clock=time.monotonic) -> str | None:
     """The base ID that the module reports, or None if it reports none in time."""
-    stream, end = b"", clock() + ANSWER_TIMEOUT
+    stream, deadline = b"", clock() + ANSWER_TIMEOUT
     try:
         os.write(port, BASE_REQUEST)
-        while (left := end - clock()) > 0:
-            if select.select([port], [], [], left)[0]:
-                got = os.read(port, 4096)
-                stream += got
-                if base_in(stream) or not got:
+        while (seconds_left := deadline - clock()) > 0:
+            if select.select([port], [], [], seconds_left)[0]:
+                chunk = os.read(port, 4096)
+                stream += chunk
+                if base_in(stream) or not chunk:
                     break
     except BlockingIOError:
         return None
@@ -158,10 +159,10 @@ def is_hung_up(port: int) -> bool:
 def close_port(port: int, sleep=time.sleep) -> None:
     """Closes a port. What the stick has not taken after a second is discarded: the kernel would wait for half a
     minute."""
-    for _ in range(round(SEND_TIMEOUT / PAUSE)):
+    for _ in range(round(SEND_TIMEOUT / CLOSE_PAUSE)):
         if not unsent_bytes(port):
             break
-        sleep(PAUSE)
+        sleep(CLOSE_PAUSE)
     discard_unsent(port)
     os.close(port)
 

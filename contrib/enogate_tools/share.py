@@ -19,8 +19,9 @@ def table_lines(name: str) -> Iterator[str]:
 
 def profiles_in(text: str) -> list[str]:
     """The profiles of a profile, or of a profile and the last TYPE of a range: A5-02-01..0B."""
-    first, _, last = text.partition("..")
-    return [f"{first[:6]}{number:02X}" for number in range(int(first[6:], 16), int(last or first[6:], 16) + 1)]
+    first_profile, _, last_type = text.partition("..")
+    return [f"{first_profile[:6]}{number:02X}"
+            for number in range(int(first_profile[6:], 16), int(last_type or first_profile[6:], 16) + 1)]
 
 
 @functools.cache
@@ -39,27 +40,27 @@ def device_kind(eep: str) -> str:
 def texts_by_word(kind: str) -> dict[str, str]:
     """Words of this kind, each with its text: those of the gateway (`error`, `result`, `reason` or `rorg`), each with a
     text for people; the heads of a sheet (`column`), each with what the column has; and letters (`spelling`)."""
-    found = (row.split(None, 2) for row in table_lines("words"))
-    return {word: text for one, word, text in found if one == kind}
+    kinds_words_texts = (row.split(None, 2) for row in table_lines("words"))
+    return {word: text for row_kind, word, text in kinds_words_texts if row_kind == kind}
 
 
 @functools.cache
 def order_forms() -> dict[str, list[tuple[str, frozenset[str]]]]:
     """The orders by their first words: the forms of each, with the errors that each form can have."""
-    found: dict[str, list[tuple[str, frozenset[str]]]] = {}
+    errors_by_form: dict[str, list[tuple[str, frozenset[str]]]] = {}
     for row in table_lines("orders"):
         if row[0].islower():
             form, *errors = re.split(" {2,}", row, maxsplit=1)
-            found.setdefault(form.split(" ")[0], []).append((form, frozenset(" ".join(errors).split())))
-    return found
+            errors_by_form.setdefault(form.split(" ")[0], []).append((form, frozenset(" ".join(errors).split())))
+    return errors_by_form
 
 
 @functools.cache
 def effects() -> dict[str, str]:
     """What each of these forms does."""
-    every = list(table_lines("orders"))
-    pairs = ((row, below.strip()) for row, below in zip(every, every[1:]) if below[0] == " ")
-    return {re.split(" {2,}", row, maxsplit=1)[0]: does for row, does in pairs}
+    lines = list(table_lines("orders"))
+    orders_and_effects = ((row, effect.strip()) for row, effect in zip(lines, lines[1:]) if effect[0] == " ")
+    return {re.split(" {2,}", row, maxsplit=1)[0]: does for row, does in orders_and_effects}
 
 
 @functools.cache

@@ -44,8 +44,8 @@ def parse_arguments(arguments: list[str]) -> argparse.Namespace:
     if bool(words.unit) != bool(words.lines) or (words.clean and not words.unit):
         parser.error("--unit, --lines: either both or none are required")
     if words.base and not ports.is_base(words.base):
-        before = "" if words.unit else "enogate-port: "
-        parser.exit(2, f"{before}BASE={words.base} is not a base ID ({ports.BASE_FORM}): correct it, or remove it\n")
+        prefix = "" if words.unit else "enogate-port: "
+        parser.exit(2, f"{prefix}BASE={words.base} is not a base ID ({ports.BASE_FORM}): correct it, or remove it\n")
     return words
 
 
@@ -56,10 +56,10 @@ class PortStarter:
         self.path, self.unit, self.base_file = words.port, words.unit, words.base_file
         self.set_base = self.base = (words.base or "").upper()
         # what the module reported at the start, and what it was compared with last
-        self.reported: str | None = None
-        self.compared = ""
+        self.reported_base: str | None = None
+        self.compared_base = ""
         # the port while it is being prepared
-        self.asked: int | None = None
+        self.prepared_port: int | None = None
         self.command_words = words.command
         self.needs_base = bool(self.base) or words.base_id or PLACEHOLDER in words.command
         self.announces = not words.base_id
@@ -67,7 +67,7 @@ class PortStarter:
 
     def prepare_port(self) -> int:
         """Opens, locks and configures the port, and finds the base ID. Returns the descriptor that holds the lock."""
-        self.asked = port = ports.open_port(self.path)
+        self.prepared_port = port = ports.open_port(self.path)
         try:
             ports.configure(port, self.path)
             if self.needs_base:
@@ -76,51 +76,52 @@ class PortStarter:
             ports.close_port(port)
             raise
         finally:
-            self.asked = None
+            self.prepared_port = None
         return port
 
     def discard_unsent(self) -> None:
         """This process ends while it prepares a port: a stick that takes no bytes must not delay that."""
-        if self.asked is not None:
-            ports.discard_unsent(self.asked)
+        if self.prepared_port is not None:
+            ports.discard_unsent(self.prepared_port)
 
-    def set_or_compare_base(self, reported: str | None) -> None:
+    def set_or_compare_base(self, reported_base: str | None) -> None:
         """Compares the base ID with the one that the module reported, or takes that one."""
-        self.reported, self.compared = reported, ""
-        if not self.set_base and not reported:
+        self.reported_base, self.compared_base = reported_base, ""
+        if not self.set_base and not reported_base:
             raise ports.PortError(f"no radio module at {self.path} reports its base ID: unplug it and plug it in, "
                                   "correct SERIAL, or set BASE")
         if not self.set_base:
-            self.base = reported
+            self.base = reported_base
             if self.announces:
-                self.say(NOTICE, f"the base ID is {reported}, as the radio module at {self.path} reports")
-        elif not reported:
+                self.say(NOTICE, f"the base ID is {reported_base}, as the radio module at {self.path} reports")
+        elif not reported_base:
             self.say(WARNING, f"no radio module at {self.path} reports its base ID: check SERIAL; the gateway starts "
                      f"with BASE={self.base}")
         else:
-            self.warn_of_other_base(reported)
+            self.warn_of_other_base(reported_base)
 
-    def warn_of_other_base(self, reported: str) -> None:
+    def warn_of_other_base(self, reported_base: str) -> None:
         """Logs a warning if the module has reported another base ID than that of the gateway; once for each one."""
-        if reported not in (self.base, self.compared):
-            self.say(WARNING, f"BASE is {self.base}, but the base ID of the radio module at {self.path} is {reported}: "
+        if reported_base not in (self.base, self.compared_base):
+            self.say(WARNING,
+                     f"BASE is {self.base}, but the base ID of the radio module at {self.path} is {reported_base}: "
                      "correct or remove BASE, and restart the gateway")
-        self.compared = reported
+        self.compared_base = reported_base
 
     def wait_for_port(self) -> int:
         """Like `prepare_port`, but waits until the port can be used. Each reason is reported once, even if it comes
         back: a stick with a loose plug may change between two reasons for days."""
-        reported: set[str] = set()
+        reported_faults: set[str] = set()
         while True:
             try:
                 port = self.prepare_port()
                 break
             except ports.PortError as error:
-                if str(error) not in reported:
+                if str(error) not in reported_faults:
                     self.say(WARNING, f"{error}; waiting")
-                    reported.add(str(error))
+                    reported_faults.add(str(error))
             self.sleep(PAUSE)
-        if reported:
+        if reported_faults:
             self.say(NOTICE, f"{self.path} can be used now")
             # Orders that were given meanwhile are out of date.
             desk.make_empty(os.path.join(self.unit, "desk"))
@@ -130,14 +131,14 @@ class PortStarter:
     def warn_of_other_stick(self) -> None:
         """Logs a warning if the module is not that of earlier starts: of two sticks, the other one may have been taken.
         Its base ID is stored if it is set, or if none was stored."""
-        if not self.base_file or self.reported != self.base:
+        if not self.base_file or self.reported_base != self.base:
             return
-        earlier = ""
+        earlier_base = ""
         with contextlib.suppress(OSError), open(self.base_file, encoding="ascii", errors="replace") as file:
-            earlier = file.read(9).strip()
-        if not self.set_base and (why := ports.other_stick_fault(earlier, self.base, self.path)):
-            self.say(WARNING, why)
-        elif earlier != self.base:
+            earlier_base = file.read(9).strip()
+        if not self.set_base and (fault := ports.other_stick_fault(earlier_base, self.base, self.path)):
+            self.say(WARNING, fault)
+        elif earlier_base != self.base:
             with contextlib.suppress(OSError), open(self.base_file, "w", encoding="ascii") as file:
                 print(self.base, file=file)
 
@@ -163,10 +164,10 @@ def main(arguments: list[str] | None = None) -> int:
 
     def say(priority: str, text: str) -> None:
         """Writes a line, in a unit with its priority for the journal."""
-        before = (priority if "JOURNAL_STREAM" in os.environ else "") if words.unit else "enogate-port: "
+        prefix = (priority if "JOURNAL_STREAM" in os.environ else "") if words.unit else "enogate-port: "
         # without a journal the gateway runs on
         with contextlib.suppress(OSError):
-            print(f"{before}{text}", file=sys.stderr, flush=True)
+            print(f"{prefix}{text}", file=sys.stderr, flush=True)
 
     starter = PortStarter(words, say)
     if words.unit:
@@ -189,9 +190,10 @@ def run_unit(words: argparse.Namespace, starter: PortStarter, say) -> int:
     Its main process reports that: systemd does not look at the status of another one when it decides on a restart."""
     folder, name = os.path.split(words.unit)
     # Another directory is that of a gateway without a unit.
-    if folder == gateways.RUNTIME_FOLDER and (why := gateways.why_not_among(name, sorted(gateways.startable_names()))):
+    if folder == gateways.RUNTIME_FOLDER and (reason := gateways.why_not_among(name,
+                                                                               sorted(gateways.startable_names()))):
         if not words.clean:
-            say(WARNING, why)
+            say(WARNING, reason)
         return 0 if words.clean else 2
     try:
         if not words.clean:

@@ -36,10 +36,10 @@ def first_line_of(command: list[str]) -> str:
     # imported only here, since enogatectl(1) seldom runs a command, and imports take most of its time
     import subprocess
     try:
-        done = subprocess.run(command, capture_output=True, text=True, timeout=LONGEST_RUN, check=False)
+        result = subprocess.run(command, capture_output=True, text=True, timeout=LONGEST_RUN, check=False)
     except (OSError, subprocess.TimeoutExpired):
         return ""
-    return done.stdout.partition("\n")[0]
+    return result.stdout.partition("\n")[0]
 
 
 def user_and_groups(name: str = "enogate") -> tuple[int, set[int]] | None:
@@ -68,22 +68,22 @@ class System:
         """A path on this machine."""
         return self.root + path
 
-    def read(self, *parts: str) -> str:
+    def read(self, *path_parts: str) -> str:
         """The text of a file of /proc, or nothing if it cannot be read."""
         try:
-            with open(os.path.join(self.proc, *parts), encoding="utf-8", errors="replace") as file:
+            with open(os.path.join(self.proc, *path_parts), encoding="utf-8", errors="replace") as file:
                 return file.read()
         except OSError:
             return ""
 
-    def process(self, number: int) -> Process:
+    def process(self, process_number: int) -> Process:
         """The process with this number."""
-        return Process(number, self.read(str(number), "comm").strip() or "of another user")
+        return Process(process_number, self.read(str(process_number), "comm").strip() or "of another user")
 
     def processes(self) -> list[Process]:
         """All processes but this one."""
-        numbers = sorted(int(name) for name in os.listdir(self.proc) if name.isdigit())
-        return [self.process(number) for number in numbers if number != os.getpid()]
+        process_numbers = sorted(int(name) for name in os.listdir(self.proc) if name.isdigit())
+        return [self.process(number) for number in process_numbers if number != os.getpid()]
 
     def gateway_at(self, desk: str) -> Process | None:
         """The gateway that reads this desk."""
@@ -109,15 +109,15 @@ class System:
     def read_counts(self, process: Process) -> tuple[int | None, int | None]:
         """How many read calls a process has made, and how many bytes it has read; None if the kernel does not count."""
         counts = dict(re.findall(r"(rchar|syscr): (\d+)", self.read(str(process.number), "io")))
-        calls, bytes_read = counts.get("syscr"), counts.get("rchar")
-        return calls and int(calls), bytes_read and int(bytes_read)
+        read_calls, bytes_read = counts.get("syscr"), counts.get("rchar")
+        return read_calls and int(read_calls), bytes_read and int(bytes_read)
 
     def option_value(self, process: Process, name: str) -> str:
         """The value of this option in the command line of a process, or nothing."""
         words = self.read(str(process.number), "cmdline").split("\0")
-        for word, following in zip(words, words[1:]):
+        for word, next_word in zip(words, words[1:]):
             if word == name or word.startswith(f"{name}="):
-                return following if word == name else word.removeprefix(f"{name}=")
+                return next_word if word == name else word.removeprefix(f"{name}=")
         return ""
 
     def open_files(self, process: Process) -> list[OpenFile] | None:
@@ -144,9 +144,9 @@ class System:
             return None
         except OSError:
             return None
-        info = dict(re.findall(r"(pos|flags):\s*(\d+)", self.read(folder, "fdinfo", name)))
-        return OpenFile(int(name), status, int(info.get("pos", "0")),
-                        int(info.get("flags", "2"), 8) & os.O_ACCMODE == os.O_RDONLY)
+        descriptor_info = dict(re.findall(r"(pos|flags):\s*(\d+)", self.read(folder, "fdinfo", name)))
+        return OpenFile(int(name), status, int(descriptor_info.get("pos", "0")),
+                        int(descriptor_info.get("flags", "2"), 8) & os.O_ACCMODE == os.O_RDONLY)
 
     def users_of(self, path: str) -> tuple[list[Process], bool]:
         """The processes that have a file or a device open, and whether this user can see those of all users."""
@@ -162,8 +162,8 @@ class System:
         """The processes that have locked a file or a device node."""
         status = os.stat(path)
         file = f"{os.major(status.st_dev):02x}:{os.minor(status.st_dev):02x}:{status.st_ino}"
-        numbers = re.findall(rf"^\d+: \w+ +\w+ +\w+ (\d+) {file} ", self.read("locks"), re.MULTILINE)
-        return [self.process(number) for number in sorted(set(map(int, numbers)) - {os.getpid()})]
+        process_numbers = re.findall(rf"^\d+: \w+ +\w+ +\w+ (\d+) {file} ", self.read("locks"), re.MULTILINE)
+        return [self.process(number) for number in sorted(set(map(int, process_numbers)) - {os.getpid()})]
 
     def may_access(self, path: str, rights: int) -> bool:
         """Whether the user of the unit has these rights on a path: 4 read, 2 write, 1 search. Without the user: yes."""
@@ -178,8 +178,8 @@ class System:
         return self.run(["systemctl", question, unit])
 
 
-def is_same_file(one: os.stat_result, other: os.stat_result) -> bool:
+def is_same_file(status: os.stat_result, other_status: os.stat_result) -> bool:
     """Whether these are the same file, or the same device with whatever name."""
-    if stat.S_ISCHR(one.st_mode) and stat.S_ISCHR(other.st_mode):
-        return one.st_rdev == other.st_rdev
-    return (one.st_dev, one.st_ino) == (other.st_dev, other.st_ino)
+    if stat.S_ISCHR(status.st_mode) and stat.S_ISCHR(other_status.st_mode):
+        return status.st_rdev == other_status.st_rdev
+    return (status.st_dev, status.st_ino) == (other_status.st_dev, other_status.st_ino)

@@ -26,7 +26,7 @@ FIRST_WAIT, MAX_WAIT, LONG_RUN = 2.0, 60.0, 600.0
 READ_SIZE = 1 << 16
 # The line of a module's response with its base ID: no other response to an order has four bytes of data. Lines are
 # searched for it, and not parsed: see lines.PACKET.
-BASE_REPORT = re.compile(rb'^\{"code":0,"data":"([0-9A-F]{8})","name":"OK","type":"response"\}$', re.MULTILINE)
+BASE_REPORT_PATTERN = re.compile(rb'^\{"code":0,"data":"([0-9A-F]{8})","name":"OK","type":"response"\}$', re.MULTILINE)
 
 
 class StarterOfUnit(Protocol):
@@ -38,7 +38,7 @@ class StarterOfUnit(Protocol):
     def command(self) -> list[str]:
         """The command of the gateway, once the base ID is known."""
 
-    def warn_of_other_base(self, reported: str) -> None:
+    def warn_of_other_base(self, reported_base: str) -> None:
         """The module has reported this base ID."""
 
     def discard_unsent(self) -> None:
@@ -49,13 +49,13 @@ class Unit:
     """Runs a gateway at a port with this path, with its desk in a folder and its lines in a file."""
 
     def __init__(self, path: str, folder: str, lines: str, starter: StarterOfUnit, say: Callable[[str, str], None],
-                 look: float = LOOK_PAUSE, clock: Callable[[], float] = time.monotonic,
+                 look_pause: float = LOOK_PAUSE, clock: Callable[[], float] = time.monotonic,
                  sleep: Callable[[float], None] = time.sleep):
         self.path, self.folder, self.starter = path, folder, starter
-        self.say, self.look, self.clock, self.sleep = say, look, clock, sleep
+        self.say, self.look_pause, self.clock, self.sleep = say, look_pause, clock, sleep
         self.desk = os.path.join(folder, "desk")
         self.lines = LineStore(lines, say)
-        self.pauses, self.wait = RestartPauses(), FIRST_WAIT / 2
+        self.pauses, self.start_wait = RestartPauses(), FIRST_WAIT / 2
         self.gateway: subprocess.Popen[bytes] | None = None
         self.is_stopped = False
 
@@ -72,7 +72,7 @@ class Unit:
 
     def run_gateway(self) -> int | None:
         """Runs the gateway once. Returns the exit status of the unit, or None if it is to be started again."""
-        port, command, started = self.starter.wait_for_port(), self.starter.command(), self.clock()
+        port, command, start_time = self.starter.wait_for_port(), self.starter.command(), self.clock()
         try:
             # SIGXFSZ and SIGPIPE stay ignored: a write that fails is an error of the gateway, which it reports
             self.gateway = subprocess.Popen(command, stdout=subprocess.PIPE, restore_signals=False)
@@ -92,7 +92,7 @@ class Unit:
         if not self.log_end(status, is_unplugged, node):
             return status if status >= 0 else 128 - status
         self.log_fault_cause()
-        self.sleep_before_start(self.clock() - started)
+        self.sleep_before_start(self.clock() - start_time)
         return None
 
     def stop(self, *_: object) -> None:
@@ -117,16 +117,17 @@ class Unit:
     def log_end(self, status: int, is_unplugged: bool, node: os.stat_result) -> bool:
         """Logs why the gateway has ended. Returns whether its program reported a fault for another reason."""
         try:
-            now = os.stat(self.path)
+            node_status = os.stat(self.path)
         except OSError:
-            now = None
-        if is_unplugged or now is None or not stat.S_ISCHR(now.st_mode):
-            again = " and plugged in again" if now and stat.S_ISCHR(now.st_mode) and not is_same_node(now, node) else ""
-            self.say(NOTICE, f"the stick at {self.path} was unplugged{again}")
+            node_status = None
+        if is_unplugged or node_status is None or not stat.S_ISCHR(node_status.st_mode):
+            reconnection = (" and plugged in again" if node_status and stat.S_ISCHR(node_status.st_mode)
+                            and not is_same_node(node_status, node) else "")
+            self.say(NOTICE, f"the stick at {self.path} was unplugged{reconnection}")
             return False
         if status == 0:
-            turns = os.environ.get("TURNS", "its")
-            self.say(NOTICE, f"exited after {turns} read cycles (TURNS), with the stick plugged in")
+            turn_count = os.environ.get("TURNS", "its")
+            self.say(NOTICE, f"exited after {turn_count} read cycles (TURNS), with the stick plugged in")
         return status == 1
 
     def log_fault_cause(self) -> None:
@@ -135,11 +136,11 @@ class Unit:
         if run_enogate_check(name) == 0:
             self.say(NOTICE, f"no cause found; more is checked by: sudo enogate-check {name}")
 
-    def sleep_before_start(self, ran: float) -> None:
+    def sleep_before_start(self, run_seconds: float) -> None:
         """Waits before the next start, after a run of so many seconds that ended with a fault."""
-        self.wait = FIRST_WAIT if ran >= LONG_RUN else min(2 * self.wait, MAX_WAIT)
-        self.say(NOTICE, f"the gateway is started again in {self.wait:.0f} s")
-        self.sleep(self.wait)
+        self.start_wait = FIRST_WAIT if run_seconds >= LONG_RUN else min(2 * self.start_wait, MAX_WAIT)
+        self.say(NOTICE, f"the gateway is started again in {self.start_wait:.0f} s")
+        self.sleep(self.start_wait)
 
 
 class GatewayRun:
@@ -150,7 +151,7 @@ class GatewayRun:
         self.watch = Watch(unit.path, "--explain" in unit.starter.command())
         self.system = System()
         # why it is ended, and at how many looks since then it still ran
-        self.fault, self.ending = "", -1
+        self.fault, self.looks_since_end = "", -1
 
     def follow(self) -> str:
         """Stores the lines of the gateway until it has ended. Returns why it was ended; empty if it was not."""
@@ -160,31 +161,31 @@ class GatewayRun:
         poll.register(output, select.POLLIN)
         # reports only whether it is hung up
         poll.register(self.port, 0)
-        looked = self.unit.clock()
+        looked_at = self.unit.clock()
         while True:
-            left = looked + self.unit.look - self.unit.clock()
-            for file, _ in poll.poll(max(0.0, left * 1000)):
+            seconds_left = looked_at + self.unit.look_pause - self.unit.clock()
+            for file, _ in poll.poll(max(0.0, seconds_left * 1000)):
                 if file == self.port:
                     # reads would now return at once, without data, until all turns are over
                     poll.unregister(self.port)
                     self.end()
                 elif text := os.read(output, READ_SIZE):
-                    for report in BASE_REPORT.finditer(lines.add(text)):
+                    for report in BASE_REPORT_PATTERN.finditer(lines.add(text)):
                         self.unit.starter.warn_of_other_base(report[1].decode())
                 else:
                     lines.drop_unended()
                     self.gateway.stdout.close()
                     return self.fault
             lines.store()
-            if left <= 0:
-                looked = self.unit.clock()
-                self.look(looked)
+            if seconds_left <= 0:
+                looked_at = self.unit.clock()
+                self.look(looked_at)
 
     def look(self, now: float) -> None:
         """Looks at the gateway, and ends it if it does not work."""
-        if self.ending >= 0:
-            self.ending += 1
-            if self.ending == KILLED_AFTER:
+        if self.looks_since_end >= 0:
+            self.looks_since_end += 1
+            if self.looks_since_end == KILLED_AFTER:
                 self.gateway.kill()
             return
         fault = self.watch.fault_at(self.take_sample())
@@ -193,34 +194,34 @@ class GatewayRun:
             self.end()
 
     def end(self) -> None:
-        self.ending = 0
+        self.looks_since_end = 0
         self.gateway.terminate()
 
     def take_sample(self) -> Sample:
         """The gateway as it is now."""
         process = Process(self.gateway.pid, "enogate")
-        calls, received = self.system.read_counts(process)
+        read_calls, bytes_read = self.system.read_counts(process)
         try:
             desk = os.stat(self.unit.desk)
         except OSError:
             desk = None
         files = self.system.open_files(process) or []
-        read = (file for file in files if desk and file.is_read_only)
-        offset = next((file.offset for file in read if is_same_file(file.status, desk)), 0)
-        return Sample(calls, None if received is None else received - offset, self.unit.lines.count,
+        read_files = (file for file in files if desk and file.is_read_only)
+        offset = next((file.offset for file in read_files if is_same_file(file.status, desk)), 0)
+        return Sample(read_calls, None if bytes_read is None else bytes_read - offset, self.unit.lines.count,
                       self.unit.lines.packets, offset, desk.st_size - offset if desk else 0,
                       ports.unsent_bytes(self.port))
 
 
-def is_same_node(one: os.stat_result, other: os.stat_result) -> bool:
+def is_same_node(status: os.stat_result, other_status: os.stat_result) -> bool:
     """Whether these are the same device node. A stick that is plugged in again gets another one."""
-    return (one.st_dev, one.st_ino) == (other.st_dev, other.st_ino)
+    return (status.st_dev, status.st_ino) == (other_status.st_dev, other_status.st_ino)
 
 
-def end_by_signal(number: int) -> None:
+def end_by_signal(signal_number: int) -> None:
     """Ends this process by a signal, as systemd expects it of a unit that it stops."""
-    signal.signal(number, signal.SIG_DFL)
-    os.kill(os.getpid(), number)
+    signal.signal(signal_number, signal.SIG_DFL)
+    os.kill(os.getpid(), signal_number)
 
 
 def run_enogate_check(name: str) -> int:

@@ -20,16 +20,16 @@ FIRST_PAUSE, MAX_PAUSE, FORGOTTEN_AFTER = 60.0, 3600.0, 86400.0
 class Sample:
     """A gateway at one look. `calls` and `received` are None if the kernel does not count them."""
     # read calls since its start, and bytes that it has read in them, without its orders
-    calls: int | None
-    received: int | None
+    read_calls: int | None
+    received_bytes: int | None
     # lines so far, and packet lines among them
     lines: int
-    packets: int
+    packet_count: int
     # the offset up to which it has read its desk, and how many bytes of orders follow; negative if the desk is shorter
     offset: int
-    unread: int
+    unread_bytes: int
     # bytes that wait in the kernel for the stick
-    unsent: int
+    unsent_bytes: int
 
 
 class Watch:
@@ -38,65 +38,69 @@ class Watch:
 
     def __init__(self, path: str, explains: bool):
         self.path, self.explains = path, explains
-        self.last: Sample | None = None
-        self.stuck = self.unread = self.unsent = 0
+        self.last_sample: Sample | None = None
+        self.stuck_looks = self.unread_looks = self.unsent_looks = 0
         # whether an order was read and no line was written since
         self.is_asked = False
         # the looks since the first byte after the last packet, and those at which bytes had come
-        self.looks = self.bursts = 0
+        self.packetless_looks = self.byte_bursts = 0
 
-    def fault_at(self, now: Sample) -> str:
+    def fault_at(self, sample: Sample) -> str:
         """What is wrong at this look; empty if nothing is."""
-        last, self.last = self.last, now
-        if last is None:
+        last_sample, self.last_sample = self.last_sample, sample
+        if last_sample is None:
             return ""
-        comes = now.received is not None and last.received is not None and now.received > last.received
-        has_read = now.calls is None or now.calls != last.calls
-        self.stuck = 0 if has_read or now.lines != last.lines else self.stuck + 1
+        has_received = (sample.received_bytes is not None and last_sample.received_bytes is not None
+                        and sample.received_bytes > last_sample.received_bytes)
+        has_read = sample.read_calls is None or sample.read_calls != last_sample.read_calls
+        self.stuck_looks = 0 if has_read or sample.lines != last_sample.lines else self.stuck_looks + 1
         # between two reads it carries out a part of its orders, which takes long if the disk is slow
-        self.unread = self.unread + has_read if now.unread and last.unread and now.offset == last.offset else 0
-        self.unsent = self.unsent + 1 if now.unsent and last.unsent and not comes else 0
-        self.count_looks_without_packet(comes, now, last)
-        if self.unsent >= UNSENT_LOOKS:
-            return f"the stick at {self.path} has taken no bytes for {UNSENT_LOOKS} s, {now.unsent} are waiting"
-        if self.stuck >= STUCK_LOOKS:
+        self.unread_looks = (self.unread_looks + has_read if sample.unread_bytes and last_sample.unread_bytes
+                             and sample.offset == last_sample.offset else 0)
+        self.unsent_looks = (self.unsent_looks + 1 if sample.unsent_bytes and last_sample.unsent_bytes
+                             and not has_received else 0)
+        self.count_looks_without_packet(has_received, sample, last_sample)
+        if self.unsent_looks >= UNSENT_LOOKS:
+            return (f"the stick at {self.path} has taken no bytes for {UNSENT_LOOKS} s, {sample.unsent_bytes} are "
+                    "waiting")
+        if self.stuck_looks >= STUCK_LOOKS:
             return (f"the gateway has read nothing for {STUCK_LOOKS} s: perhaps the stick at {self.path} takes no "
                     "bytes, or the disk does not answer")
-        if self.unread >= UNREAD_LOOKS and now.unread < 0:
-            return f"the desk was truncated: the next {-now.unread} bytes of orders would be lost"
-        if self.unread >= UNREAD_LOOKS:
-            return (f"{now.unread} bytes of orders have not been read for {UNREAD_LOOKS} s: perhaps the desk was "
-                    "replaced")
-        if self.explains and self.looks >= PACKETLESS_LOOKS and self.bursts >= MIN_BURSTS:
+        if self.unread_looks >= UNREAD_LOOKS and sample.unread_bytes < 0:
+            return f"the desk was truncated: the next {-sample.unread_bytes} bytes of orders would be lost"
+        if self.unread_looks >= UNREAD_LOOKS:
+            return (f"{sample.unread_bytes} bytes of orders have not been read for {UNREAD_LOOKS} s: perhaps the "
+                    "desk was replaced")
+        if self.explains and self.packetless_looks >= PACKETLESS_LOOKS and self.byte_bursts >= MIN_BURSTS:
             return (f"bytes come from the stick at {self.path}, but no packet for {PACKETLESS_LOOKS} s: they are "
                     "damaged, or this is not the port of a radio module")
         return ""
 
-    def count_looks_without_packet(self, comes: bool, now: Sample, last: Sample) -> None:
+    def count_looks_without_packet(self, has_received: bool, sample: Sample, last_sample: Sample) -> None:
         """Counts the looks since bytes came without a packet. While an order is carried out, the gateway may read the
         database."""
-        is_asked = self.is_asked or now.offset != last.offset or now.lines != last.lines
-        self.is_asked = is_asked and now.lines == last.lines
-        if now.packets > last.packets:
-            self.looks = self.bursts = 0
-        elif self.looks or (comes and not is_asked):
-            self.looks += 1
-            self.bursts += comes and not is_asked
+        is_asked = self.is_asked or sample.offset != last_sample.offset or sample.lines != last_sample.lines
+        self.is_asked = is_asked and sample.lines == last_sample.lines
+        if sample.packet_count > last_sample.packet_count:
+            self.packetless_looks = self.byte_bursts = 0
+        elif self.packetless_looks or (has_received and not is_asked):
+            self.packetless_looks += 1
+            self.byte_bursts += has_received and not is_asked
 
 
 class RestartPauses:
     """When the watchdog may restart the gateway again: a restart that does not help only loses telegrams and orders."""
 
     def __init__(self) -> None:
-        self.pause, self.last = FIRST_PAUSE, float("-inf")
+        self.pause, self.last_restart = FIRST_PAUSE, float("-inf")
 
     def take_restart(self, now: float) -> bool:
         """Whether to restart it at this time; if so, this counts as a restart."""
-        if now < self.last + self.pause:
+        if now < self.last_restart + self.pause:
             return False
-        if self.last == float("-inf") or now >= self.last + FORGOTTEN_AFTER:
+        if self.last_restart == float("-inf") or now >= self.last_restart + FORGOTTEN_AFTER:
             self.pause = FIRST_PAUSE
         else:
             self.pause = min(2 * self.pause, MAX_PAUSE)
-        self.last = now
+        self.last_restart = now
         return True

@@ -40,19 +40,19 @@ def kit_logic():
     return kit_name().partition(" logic ")[2] or kit_name()
 
 
-def link_or_copy(one, other):
+def link_or_copy(source, target):
     """Copies a kept file, or links it if it holds a proof: a check replaces such a file and never changes it."""
-    if one.endswith(".oantt"):
+    if source.endswith(".oantt"):
         try:
-            return os.link(one, other)
+            return os.link(source, target)
         except OSError:
             pass
-    return shutil.copy2(one, other)
+    return shutil.copy2(source, target)
 
 
 def file_sums(folder):
     """The names and the sums of the files of the folder. They show whether one was changed, lost or added."""
-    return [(it, record.digest_of(record.file_content(it))) for it in record.files_below(folder)]
+    return [(path, record.digest_of(record.file_content(path))) for path in record.files_below(folder)]
 
 
 class Checker:
@@ -68,42 +68,44 @@ class Checker:
         """Checks the unchanged crate, and returns this check. It uses the results of an earlier `rt check`, if any."""
         if not libraries.are_built(self.root, self.crate.below(), kit_name()):
             raise LibrariesNotBuilt(f"the libraries below {self.crate.name} are not built: run `make build`")
-        kept = f"{self.folder}/out/incremental"
-        if os.path.isdir(kept):
-            shutil.copytree(kept, self.seed, symlinks=True, copy_function=link_or_copy)
+        incremental_folder = f"{self.folder}/out/incremental"
+        if os.path.isdir(incremental_folder):
+            shutil.copytree(incremental_folder, self.seed, symlinks=True, copy_function=link_or_copy)
         else:
             os.mkdir(self.seed)
-        found = self.run_prover({}, self.seed)
+        report = self.run_prover({}, self.seed)
         self.files = file_sums(self.seed)
-        return found
+        return report
 
     def check(self, texts, only=()):
         """Checks the crate with these texts of files, by path, in place of its own.
 
         If `only` has names of functions, only these and those that they call are checked."""
-        with tempfile.TemporaryDirectory(prefix="kept-", dir=self.work_folder.name) as kept:
-            shutil.copytree(self.seed, kept, symlinks=True, copy_function=link_or_copy, dirs_exist_ok=True)
-            return self.run_prover(texts, kept, [f"--only={it.partition('::')[2]}" for it in only])
+        with tempfile.TemporaryDirectory(prefix="kept-", dir=self.work_folder.name) as incremental_folder:
+            shutil.copytree(self.seed, incremental_folder, symlinks=True, copy_function=link_or_copy,
+                            dirs_exist_ok=True)
+            return self.run_prover(texts, incremental_folder,
+                                   [f"--only={reported_name.partition('::')[2]}" for reported_name in only])
 
-    def run_prover(self, texts, kept, flags=()):
+    def run_prover(self, texts, incremental_folder, flags=()):
         # (tests/minutes recognizes the checks by this prefix)
         with tempfile.TemporaryDirectory(prefix="mutants-", dir=self.work_folder.name) as copy:
-            for part in rtlib.PARTS:
-                if os.path.isdir(f"{self.folder}/{part}"):
-                    shutil.copytree(f"{self.folder}/{part}", f"{copy}/{part}")
+            for rtlib_part in rtlib.PARTS:
+                if os.path.isdir(f"{self.folder}/{rtlib_part}"):
+                    shutil.copytree(f"{self.folder}/{rtlib_part}", f"{copy}/{rtlib_part}")
             for path, text in texts.items():
-                with open(f"{copy}/{path}", "w", encoding="utf-8") as it:
-                    it.write(text)
+                with open(f"{copy}/{path}", "w", encoding="utf-8") as file:
+                    file.write(text)
             words = [rtlib.RATTLE, "check", *self.crate.words(["--jobs", "1", *flags], keeps=False)]
-            words += ["--incremental", kept]
-            how = {"stdin": subprocess.DEVNULL, "stdout": subprocess.PIPE, "stderr": subprocess.STDOUT}
-            with subprocess.Popen(words, cwd=copy, **how) as ran:
-                printed = ran.stdout.read().decode(errors="replace")
-                _, status, used = os.wait4(ran.pid, 0)
-                ran.returncode = os.waitstatus_to_exitcode(status)
-        self.seconds += used.ru_utime + used.ru_stime
+            words += ["--incremental", incremental_folder]
+            process_options = {"stdin": subprocess.DEVNULL, "stdout": subprocess.PIPE, "stderr": subprocess.STDOUT}
+            with subprocess.Popen(words, cwd=copy, **process_options) as process:
+                output = process.stdout.read().decode(errors="replace")
+                _, status, resource_usage = os.wait4(process.pid, 0)
+                process.returncode = os.waitstatus_to_exitcode(status)
+        self.seconds += resource_usage.ru_utime + resource_usage.ru_stime
         self.checks += 1
-        return CheckReport(ran.returncode, printed, texts)
+        return CheckReport(process.returncode, output, texts)
 
     def is_seed_unchanged(self):
         """Whether no check has changed the seed."""

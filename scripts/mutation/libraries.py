@@ -12,23 +12,23 @@ NOTE_FILE = "target/libraries"
 
 def source_sum(crate, kit_name):
     """The name of a crate, and the sum of all that its library is built from, except for the libraries below it."""
-    uses = repr((sorted(it.name for it in crate.deps), sorted(crate.of_kit)))
+    uses = repr((sorted(dependency.name for dependency in crate.deps), sorted(crate.of_kit)))
     return f"{crate.name} {digest_of(kit_name.encode(), uses.encode(), digest_of_files(checked_files(crate)))}"
 
 
 def library_sum(crate):
     """The sum of the files of a crate's library."""
-    files = [(os.path.relpath(it, crate.rlib), file_content(it)) for it in files_below(crate.rlib)]
+    files = [(os.path.relpath(path, crate.rlib), file_content(path)) for path in files_below(crate.rlib)]
     return digest_of_files(files).decode()
 
 
 def are_built(root, crates, kit_name):
     """Whether the libraries of these crates, which are all that one crate uses, are built from their sources."""
     path = f"{root}/{NOTE_FILE}"
-    noted = file_content(path).decode().splitlines() if os.path.exists(path) else []
-    if all(f"{source_sum(it, kit_name)} {library_sum(it)}" in noted for it in crates):
+    noted_lines = file_content(path).decode().splitlines() if os.path.exists(path) else []
+    if all(f"{source_sum(crate, kit_name)} {library_sum(crate)}" in noted_lines for crate in crates):
         return True
-    return all(it.is_built() for it in crates)
+    return all(crate.is_built() for crate in crates)
 
 
 def run_and_note(root, crates, kit_name, words):
@@ -37,10 +37,11 @@ def run_and_note(root, crates, kit_name, words):
     path = f"{root}/{NOTE_FILE}"
     with contextlib.suppress(FileNotFoundError):
         os.remove(path)
-    before = [source_sum(it, kit_name) for it in crates]
+    sums_before = [source_sum(crate, kit_name) for crate in crates]
     status = subprocess.run(words, check=False).returncode
-    if status == 0 and before == [source_sum(it, kit_name) for it in crates]:
+    if status == 0 and sums_before == [source_sum(crate, kit_name) for crate in crates]:
         os.makedirs(os.path.dirname(path), exist_ok=True)
-        with open(path, "w", encoding="utf-8") as it:
-            it.writelines(f"{of} {library_sum(made)}\n" for of, made in zip(before, crates) if os.path.isdir(made.rlib))
+        with open(path, "w", encoding="utf-8") as crate:
+            crate.writelines(f"{source_line} {library_sum(crate)}\n"
+                             for source_line, crate in zip(sums_before, crates) if os.path.isdir(crate.rlib))
     return status if status >= 0 else 128 - status

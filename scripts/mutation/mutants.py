@@ -6,8 +6,8 @@ from typing import NamedTuple
 from mutation.sources import Function, split_functions
 
 # A ghost member of an `impl`, as `ghost state = { .. };`, is a definition, and stays.
-GHOST_LINES = re.compile(r"^ *(?:ghost\b(?! \w+ = \{)|//).*\n?", re.M)
-CLAUSES = re.compile(r"\s*\b(?:requires|ensures)\b.*", re.S)
+GHOST_LINES_PATTERN = re.compile(r"^ *(?:ghost\b(?! \w+ = \{)|//).*\n?", re.M)
+CLAUSES_PATTERN = re.compile(r"\s*\b(?:requires|ensures)\b.*", re.S)
 
 
 class UnusableMutant(Exception):
@@ -23,27 +23,27 @@ class Mutant(NamedTuple):
 
 
 def read_text(path):
-    with open(path, encoding="utf-8") as it:
-        return it.read()
+    with open(path, encoding="utf-8") as file:
+        return file.read()
 
 
 def edits_in(text):
-    path, old, edits = "", "", []
+    path, old_text, edits = "", "", []
     for line in text.split("\n"):
         if line.startswith("file: "):
             path = line[len("file: ") :].strip()
         elif line.startswith("old: "):
-            if old:
+            if old_text:
                 raise UnusableMutant("an 'old:' line has no 'new:' line")
-            old = line[len("old: ") :]
+            old_text = line[len("old: ") :]
         elif line.startswith("new:"):
-            if not path or not old:
+            if not path or not old_text:
                 raise UnusableMutant("a 'new:' line stands before any 'file:' or 'old:' line")
-            edits.append((path, old, re.sub(r"\A ", "", line[len("new:") :])))
-            old = ""
+            edits.append((path, old_text, re.sub(r"\A ", "", line[len("new:") :])))
+            old_text = ""
         elif line.startswith(("file:", "old:")):
             raise UnusableMutant(f"there is no text after '{line.strip()}', or no space before it")
-    if old:
+    if old_text:
         raise UnusableMutant("an 'old:' line has no 'new:' line")
     if not edits:
         raise UnusableMutant("it has no 'file:', 'old:' and 'new:' lines in this order")
@@ -53,18 +53,19 @@ def edits_in(text):
 def edited_texts(folder, edits):
     """The new texts of the files of this crate that these edits change, by path."""
     texts = {}
-    for path, old, new in edits:
+    for path, old_text, new_text in edits:
         if not re.fullmatch(r"(src|specs|proofs)(/\w+)+\.(rt|antt)", path):
             raise UnusableMutant(f"'file: {path}' names no file of src/, specs/ or proofs/")
         if path not in texts:
             if not os.path.isfile(f"{folder}/{path}"):
                 raise UnusableMutant(f"there is no file {path}")
             texts[path] = read_text(f"{folder}/{path}")
-        if texts[path].count(old) != 1:
+        if texts[path].count(old_text) != 1:
+            count = texts[path].count(old_text)
             raise UnusableMutant(
-                f"an 'old:' text is in {path} {texts[path].count(old)} times, and not once: {old.strip()[:60]}"
+                f"an 'old:' text is in {path} {count} times, and not once: {old_text.strip()[:60]}"
             )
-        texts[path] = texts[path].replace(old, new)
+        texts[path] = texts[path].replace(old_text, new_text)
     return texts
 
 
@@ -79,14 +80,18 @@ def changed_function(folder, edits):
             # (only the changed bodies come into a batch)
             is_more = True
             continue
-        old, old_rest = split_functions(path, read_text(f"{folder}/{path}"))
-        new, new_rest = split_functions(path, text)
-        if [it.key for it in old] != [it.key for it in new]:
+        old_functions, old_text_outside = split_functions(path, read_text(f"{folder}/{path}"))
+        new_functions, new_text_outside = split_functions(path, text)
+        if [function.key for function in old_functions] != [function.key for function in new_functions]:
             return None
-        is_more |= old_rest != new_rest or any(one.head != other.head for one, other in zip(old, new))
-        is_code |= code_in("\n".join(old_rest)) != code_in("\n".join(new_rest))
-        is_code |= any(code_of_function(one) != code_of_function(other) for one, other in zip(old, new))
-        bodies += [one for one, other in zip(old, new) if one.body != other.body]
+        is_more |= old_text_outside != new_text_outside or any(old_function.head != new_function.head
+                                                               for old_function, new_function in zip(old_functions,
+                                                                                                     new_functions))
+        is_code |= code_in("\n".join(old_text_outside)) != code_in("\n".join(new_text_outside))
+        is_code |= any(code_of_function(old_function) != code_of_function(new_function)
+                       for old_function, new_function in zip(old_functions, new_functions))
+        bodies += [old_function for old_function, new_function in zip(old_functions, new_functions)
+                   if old_function.body != new_function.body]
     if not is_code:
         raise UnusableMutant("it changes no code: only a clause, a proof, a comment or nothing")
     return bodies[0] if len(bodies) == 1 and not is_more else None
@@ -94,11 +99,11 @@ def changed_function(folder, edits):
 
 def code_in(text):
     """The text without comments and ghost lines, except for ghost members of an `impl`."""
-    return GHOST_LINES.sub("", text).strip()
+    return GHOST_LINES_PATTERN.sub("", text).strip()
 
 
 def code_of_function(function):
-    return CLAUSES.sub("", function.head).rstrip("{ \n"), code_in(function.body)
+    return CLAUSES_PATTERN.sub("", function.head).rstrip("{ \n"), code_in(function.body)
 
 
 def read_mutant(folder, path):
@@ -107,8 +112,8 @@ def read_mutant(folder, path):
     try:
         edits = edits_in(text)
         function = changed_function(folder, edits)
-    except UnusableMutant as why:
-        fault = str(why)
+    except UnusableMutant as error:
+        fault = str(error)
     return Mutant(os.path.basename(path), text, edits, function, fault)
 
 
@@ -118,10 +123,12 @@ def combined_texts(folder, mutants):
     Each mutant is applied to the unchanged file, since the 'new:' of one may hold the 'old:' of another."""
     if len(mutants) == 1:
         return edited_texts(folder, mutants[0].edits)
-    lines = {path: read_text(f"{folder}/{path}").split("\n") for path in {it.function.path for it in mutants}}
+    lines = {path: read_text(f"{folder}/{path}").split("\n")
+             for path in {mutant.function.path for mutant in mutants}}
     # (from the last function to the first, so that the lines before keep their numbers)
-    for mutant in sorted(mutants, key=lambda it: -it.function.line):
-        old, text = mutant.function, edited_texts(folder, mutant.edits)[mutant.function.path]
-        new = next(it for it in split_functions(old.path, text)[0] if it.key == old.key)
-        lines[old.path][old.line : old.line + len(old.lines)] = new.lines
-    return {path: "\n".join(it) for path, it in lines.items()}
+    for mutant in sorted(mutants, key=lambda mutant: -mutant.function.line):
+        old_function, text = mutant.function, edited_texts(folder, mutant.edits)[mutant.function.path]
+        new_function = next(function for function in split_functions(old_function.path, text)[0]
+                            if function.key == old_function.key)
+        lines[old_function.path][old_function.line : old_function.line + len(old_function.lines)] = new_function.lines
+    return {path: "\n".join(new_lines) for path, new_lines in lines.items()}

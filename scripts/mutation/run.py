@@ -14,31 +14,31 @@ SAMPLE_SIZE = 8
 
 
 def mutants_in(folder):
-    return [read_mutant(folder, it) for it in sorted(glob.glob(f"{folder}/mutants/*.edit"))]
+    return [read_mutant(folder, path) for path in sorted(glob.glob(f"{folder}/mutants/*.edit"))]
 
 
 def count_faults(root, crates):
     """The crates that do not have as many mutants as tests/mutant-counts says, and files that are no mutants."""
-    want = record.expected_counts(root)
-    have = {
-        it.name: len(glob.glob(f"{it.folder}/mutants/*.edit") + glob.glob(f"{it.folder}/must-fail/*.edit"))
-        for it in crates
+    wanted_counts = record.expected_counts(root)
+    actual_counts = {
+        crate.name: len(glob.glob(f"{crate.folder}/mutants/*.edit") + glob.glob(f"{crate.folder}/must-fail/*.edit"))
+        for crate in crates
     }
-    others = {file for it in crates for file in record.files_below(f"{it.folder}/mutants")}
-    others -= {file for it in crates for file in glob.glob(f"{it.folder}/mutants/*.edit")}
-    return [f"{os.path.relpath(it, root)} has another name than mutants have" for it in sorted(others)] + [
-        f"{name} has {have.get(name, 0)} mutants, and {record.COUNTS_FILE} says {want.get(name, 0)}"
-        for name in sorted({*want, *have})
-        if have.get(name, 0) != want.get(name, 0)
+    other_files = {file for crate in crates for file in record.files_below(f"{crate.folder}/mutants")}
+    other_files -= {file for crate in crates for file in glob.glob(f"{crate.folder}/mutants/*.edit")}
+    return [f"{os.path.relpath(crate, root)} has another name than mutants have" for crate in sorted(other_files)] + [
+        f"{name} has {actual_counts.get(name, 0)} mutants, and {record.COUNTS_FILE} says {wanted_counts.get(name, 0)}"
+        for name in sorted({*wanted_counts, *actual_counts})
+        if actual_counts.get(name, 0) != wanted_counts.get(name, 0)
     ]
 
 
 def commit_count(root):
     """How many commits led to this state, or 0 if git does not say."""
-    ran = subprocess.run(
+    process = subprocess.run(
         ["git", "-C", root, "rev-list", "--count", "HEAD"], capture_output=True, text=True, check=False
     )
-    return 0 if ran.returncode else int(ran.stdout)
+    return 0 if process.returncode else int(process.stdout)
 
 
 class MutantRun:
@@ -47,41 +47,42 @@ class MutantRun:
     def __init__(self, root, crates, lane_count, make_checker=checker.Checker):
         self.root, self.crates, self.make_checker = root, crates, make_checker
         self.pool = concurrent.futures.ThreadPoolExecutor(lane_count)
-        self.mutants = {it.name: mutants_in(it.folder) for it in crates}
-        self.digests = {it.name: self.digests_of(it) for it in crates}
-        self.tried, self.faults = {}, []
+        self.mutants = {crate.name: mutants_in(crate.folder) for crate in crates}
+        self.digests = {crate.name: self.digests_of(crate) for crate in crates}
+        self.results_by_crate, self.faults = {}, []
 
     def digests_of(self, crate):
-        reads = record.CheckInputs(crate, self.root, checker.kit_logic())
-        return {it.name: reads.digests(it) for it in self.mutants[crate.name]}
+        check_inputs = record.CheckInputs(crate, self.root, checker.kit_logic())
+        return {mutant.name: check_inputs.digests(mutant) for mutant in self.mutants[crate.name]}
 
     def map_in_lanes(self, function, items):
         return list(self.pool.map(function, items))
 
     def new_and_sample(self):
         """The mutants that are not recorded, and a sample of those that are, by crate."""
-        old = {}
-        for name, found in self.mutants.items():
-            known = record.valid_records(self.root, name, self.digests[name])
-            old[name] = [it for it in found if not it.fault and it.name in known]
-        crate, sample = record.sample_for_turn(old, SAMPLE_SIZE, commit_count(self.root))
+        recorded_names = {}
+        for name, mutants in self.mutants.items():
+            valid_records = record.valid_records(self.root, name, self.digests[name])
+            recorded_names[name] = [mutant for mutant in mutants if not mutant.fault and mutant.name in valid_records]
+        crate, sample = record.sample_for_turn(recorded_names, SAMPLE_SIZE, commit_count(self.root))
         return {
-            name: [it for it in found if it not in old[name] or name == crate and it in sample]
-            for name, found in self.mutants.items()
+            name: [mutant
+                   for mutant in mutants if mutant not in recorded_names[name] or name == crate and mutant in sample]
+            for name, mutants in self.mutants.items()
         }
 
     def try_all(self, chosen):
         """Tries the mutants of each crate, and prints a line for it. Crates that cost more begin first."""
-        crates = sorted((it for it in self.crates if chosen[it.name]), key=lambda it: -it.need())
+        crates = sorted((crate for crate in self.crates if chosen[crate.name]), key=lambda crate: -crate.need())
         with concurrent.futures.ThreadPoolExecutor(len(crates) or 1) as threads:
-            for tries in threads.map(lambda it: self.try_crate(it, chosen[it.name]), crates):
-                self.tried[tries.name] = tries.results
+            for tries in threads.map(lambda crate: self.try_crate(crate, chosen[crate.name]), crates):
+                self.results_by_crate[tries.name] = tries.results
                 print(summary_of_crate(tries), flush=True)
 
     def try_crate(self, crate, mutants):
         checks = self.make_checker(crate, self.root)
         paths = sorted(glob.glob(f"{crate.folder}/src/**/*.rt", recursive=True))
-        sources = {os.path.relpath(it, crate.folder): read_text(it) for it in paths}
+        sources = {os.path.relpath(path, crate.folder): read_text(path) for path in paths}
         tries, fault = CrateTries(crate.name, sources, checks, self.map_in_lanes), ""
         try:
             fault = self.pool.submit(tries.check_unchanged).result()
@@ -91,37 +92,39 @@ class MutantRun:
                     fault = f"{crate.name}: a check changed what the others began with"
                 if self.digests_of(crate) != self.digests[crate.name]:
                     fault = f"{crate.name}: a file that the checks read was changed during the run"
-        except checker.LibrariesNotBuilt as why:
-            fault = str(why)
+        except checker.LibrariesNotBuilt as fault_text:
+            fault = str(fault_text)
         finally:
             checks.close()
-        left = {it.name for it in mutants} - {*tries.results}
+        missing_results = {path.name for path in mutants} - {*tries.results}
         if fault:
             # (the results of such checks must not be recorded)
             tries.results.clear()
-        elif left:
-            fault = f"{crate.name}: {min(left)} was not tried"
+        elif missing_results:
+            fault = f"{crate.name}: {min(missing_results)} was not tried"
         self.faults += [fault] if fault else []
         return tries
 
     def write_records(self):
-        for name in (it for it, found in self.mutants.items() if found):
-            record.write_record(self.root, name, self.digests[name], self.tried.get(name, {}))
+        for name in (crate_name for crate_name, mutants in self.mutants.items() if mutants):
+            record.write_record(self.root, name, self.digests[name], self.results_by_crate.get(name, {}))
 
     def result_lines(self):
         """A line for each mutant that was tried, with whether it is refused."""
-        for name, results in sorted(self.tried.items()):
-            for mutant, it in sorted(results.items()):
-                where = f" ({it.where})" if it.where else ""
-                yield it.outcome.is_refusal, f"{name}/{mutant}: {it.outcome.value}: {it.text}{where}"
+        for name, results in sorted(self.results_by_crate.items()):
+            for mutant, result in sorted(results.items()):
+                function_text = f" ({result.refused_function})" if result.refused_function else ""
+                text = f"{name}/{mutant}: {result.outcome.value}: {result.text}{function_text}"
+                yield result.outcome.is_refusal, text
 
     @property
     def untried_count(self):
-        return sum(map(len, self.mutants.values())) - sum(map(len, self.tried.values()))
+        return sum(map(len, self.mutants.values())) - sum(map(len, self.results_by_crate.values()))
 
 
 def summary_of_crate(tries):
-    counts = collections.Counter(f"{it.outcome.value} ({it.where})" for it in tries.results.values())
+    counts = collections.Counter(f"{result.outcome.value} ({result.refused_function})"
+                                 for result in tries.results.values())
     text = ", ".join(f"{count} {outcome}" for outcome, count in sorted(counts.items()))
     cost = f"{tries.checker.checks} checks, {tries.checker.seconds:.0f} processor seconds"
     return f"{tries.name}: {text or 'no result'}; {cost}"

@@ -2,10 +2,10 @@
 import re
 from typing import NamedTuple
 
-FUNCTION_HEAD = re.compile(r"^ *(?:pub(?:\([^)]*\))? )?(?:const )?(?:unsafe )?fn (\w+)")
+FUNCTION_HEAD_PATTERN = re.compile(r"^ *(?:pub(?:\([^)]*\))? )?(?:const )?(?:unsafe )?fn (\w+)")
 # A quotation mark that neither begins nor ends a text.
-NO_QUOTES = re.compile(r"\\.|'\"'")
-BLOCK_HEAD = re.compile(r"^(?:pub(?:\([^)]*\))? )?(?:unsafe )?(impl|trait)\b(.*)")
+NO_QUOTES_PATTERN = re.compile(r"\\.|'\"'")
+BLOCK_HEAD_PATTERN = re.compile(r"^(?:pub(?:\([^)]*\))? )?(?:unsafe )?(impl|trait)\b(.*)")
 
 
 class Function(NamedTuple):
@@ -33,24 +33,24 @@ def body_range(lines, start):
     """The lines that open and close the body of the function whose head begins here, or None if it has no body."""
     indent = lines[start][: len(lines[start]) - len(lines[start].lstrip())]
     opens = re.compile(rf"{indent}(?:\{{|\).*\{{|where\b.*\{{)$")
-    at = start
-    while not (opens.match(lines[at]) or at == start and lines[at].endswith("{")):
-        at += 1
+    head_end = start
+    while not (opens.match(lines[head_end]) or head_end == start and lines[head_end].endswith("{")):
+        head_end += 1
         # (clauses are indented further; after a head without a body comes a line that is not)
-        if at == len(lines) or not re.match(rf"$|{indent}(?: +\S|[{{)]|where\b)", lines[at]):
+        if head_end == len(lines) or not re.match(rf"$|{indent}(?: +\S|[{{)]|where\b)", lines[head_end]):
             return None
-    close = next((it for it in range(start + 1, len(lines)) if lines[it] == f"{indent}}}"), None)
-    return close and (at, close)
+    closing_line = next((index for index in range(start + 1, len(lines)) if lines[index] == f"{indent}}}"), None)
+    return closing_line and (head_end, closing_line)
 
 
 def without_generics(text):
     """The words after `impl` or `trait`, without lifetimes, parameters of its own and `where`."""
     text = re.sub(r"'\w+,? ?|\s*(?:where\b.*)?\{?$", "", text).strip()
     depth = 0
-    for at, it in enumerate(text if text.startswith("<") else ""):
-        depth += (it == "<") - (it == ">" and text[at - 1] != "-")
+    for index, character in enumerate(text if text.startswith("<") else ""):
+        depth += (character == "<") - (character == ">" and text[index - 1] != "-")
         if not depth:
-            return text[at + 1 :].strip()
+            return text[index + 1 :].strip()
     return text
 
 
@@ -60,29 +60,30 @@ def type_and_trait(line):
     def words(text):
         return re.findall(r"\w+", re.sub(r"\w+::", "", text))
 
-    made, _, of = without_generics(BLOCK_HEAD.match(line)[2]).partition(" for ")
-    if not of:
-        return words(re.split(r":(?!:)", made)[0])[0], ()
-    return words(of)[0], ("".join(words(made)), "".join(re.findall(r"\w+", re.sub(r"^[^<]*::", "", made))))
+    trait_text, _, type_text = without_generics(BLOCK_HEAD_PATTERN.match(line)[2]).partition(" for ")
+    if not type_text:
+        return words(re.split(r":(?!:)", trait_text)[0])[0], ()
+    return words(type_text)[0], ("".join(words(trait_text)),
+                                 "".join(re.findall(r"\w+", re.sub(r"^[^<]*::", "", trait_text))))
 
 
 def split_functions(path, text):
     """The functions of a file that have bodies, and its other lines without comments, with one for each function."""
-    lines, at, found, rest, owner, is_text = text.split("\n"), 0, [], [], ("", ()), False
-    while at < len(lines):
-        if BLOCK_HEAD.match(lines[at]):
-            owner = type_and_trait(lines[at])
-        elif lines[at] == "}":
-            owner = "", ()
-        name = FUNCTION_HEAD.match(lines[at])
-        ends = name and body_range(lines, at)
+    lines, index, functions, other_lines, type_and_trait_words, is_text = text.split("\n"), 0, [], [], ("", ()), False
+    while index < len(lines):
+        if BLOCK_HEAD_PATTERN.match(lines[index]):
+            type_and_trait_words = type_and_trait(lines[index])
+        elif lines[index] == "}":
+            type_and_trait_words = "", ()
+        name = FUNCTION_HEAD_PATTERN.match(lines[index])
+        ends = name and body_range(lines, index)
         if ends:
-            head, body = "\n".join(lines[at : ends[0] + 1]), "\n".join(lines[ends[0] + 1 : ends[1] + 1])
-            found.append(Function(path, *owner, name[1], head, body, at))
-            rest, at, is_text = [*rest, f"fn {name[1]}"], ends[1], False
-        elif lines[at].strip() and (is_text or not lines[at].lstrip().startswith("//")):
+            head_text, body = "\n".join(lines[index : ends[0] + 1]), "\n".join(lines[ends[0] + 1 : ends[1] + 1])
+            functions.append(Function(path, *type_and_trait_words, name[1], head_text, body, index))
+            other_lines, index, is_text = [*other_lines, f"fn {name[1]}"], ends[1], False
+        elif lines[index].strip() and (is_text or not lines[index].lstrip().startswith("//")):
             # (a line of a text that goes on from the line before is no comment)
-            is_text ^= NO_QUOTES.sub("", lines[at]).count('"') % 2 == 1
-            rest.append(lines[at])
-        at += 1
-    return found, rest
+            is_text ^= NO_QUOTES_PATTERN.sub("", lines[index]).count('"') % 2 == 1
+            other_lines.append(lines[index])
+        index += 1
+    return functions, other_lines

@@ -21,28 +21,29 @@ def constant_value(text):
 
 
 def constant_assertions(text):
-    for name, _, value in re.findall(r"^(?:pub )?const (\w+): (\w+) = ([^;]+);", text, re.M):
-        yield f"{name} == {constant_value(value)}"
+    for name, _, constant_text in re.findall(r"^(?:pub )?const (\w+): (\w+) = ([^;]+);", text, re.M):
+        yield f"{name} == {constant_value(constant_text)}"
 
 
 def structure_assertions(text):
     """The structures of the C library. `Tried` is skipped: it is the kit's own."""
-    known = {kind: (size, size) for kind, size in SIZE_BY_TYPE.items()}
+    size_and_alignment = {kind: (size, size) for kind, size in SIZE_BY_TYPE.items()}
     for name, body in re.findall(r"^pub struct (\w+) \{\n(.*?)^\}", text, re.M | re.S):
         if name == "Tried":
             continue
-        c = name if name.endswith("_t") else f"struct {name}"
-        end, largest = 0, 1
+        c_name = name if name.endswith("_t") else f"struct {name}"
+        end_offset, largest_alignment = 0, 1
         for field, kind in re.findall(r"^    pub (\w+): (.+),$", body, re.M):
             element, count = re.fullmatch(r"\[(\w+); (\d+)\]", kind).groups() if kind[0] == "[" else (kind, 1)
-            size, alignment = known[element]
-            at = -(-end // alignment) * alignment
-            end, largest = at + size * int(count), max(largest, alignment)
+            size, alignment = size_and_alignment[element]
+            offset = -(-end_offset // alignment) * alignment
+            end_offset, largest_alignment = offset + size * int(count), max(largest_alignment, alignment)
             # a field with such a name fills a gap, which may have another name in C
             if not field.startswith("__"):
-                yield f"offsetof({c}, {field}) == {at} && sizeof((({c} *)0)->{field}) == {end - at}"
-        known[name] = -(-end // largest) * largest, largest
-        yield f"sizeof({c}) == {known[name][0]} && _Alignof({c}) == {largest}"
+                yield (f"offsetof({c_name}, {field}) == {offset} && "
+                       f"sizeof((({c_name} *)0)->{field}) == {end_offset - offset}")
+        size_and_alignment[name] = -(-end_offset // largest_alignment) * largest_alignment, largest_alignment
+        yield f"sizeof({c_name}) == {size_and_alignment[name][0]} && _Alignof({c_name}) == {largest_alignment}"
 
 
 def main():

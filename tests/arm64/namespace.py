@@ -54,19 +54,19 @@ def run_as_init(command):
 
 
 def main():
-    mapped, unshared = os.pipe(), os.pipe()
+    mapped_pipe, unshared_pipe = os.pipe(), os.pipe()
     process = os.fork()
     if process == 0:
         end_with_parent()
         require_success(C_LIBRARY.unshare(CLONE_NEWUSER | CLONE_NEWNS | CLONE_NEWPID))
-        os.write(unshared[1], b".")
-        os.read(mapped[0], 1)
+        os.write(unshared_pipe[1], b".")
+        os.read(mapped_pipe[0], 1)
         mount_file_system(None, "/", MS_REC_PRIVATE)
         sys.exit(run_as_init(sys.argv[2:]))
-    os.close(unshared[1])
-    if os.read(unshared[0], 1):
+    os.close(unshared_pipe[1])
+    if os.read(unshared_pipe[0], 1):
         map_user_and_group_ids(process)
-    os.write(mapped[1], b".")
+    os.write(mapped_pipe[1], b".")
     sys.exit(os.waitstatus_to_exitcode(os.waitpid(process, 0)[1]))
 
 

@@ -21,14 +21,14 @@ PART_COUNT = 4
 
 def replay_script(program, base, script, options):
     """What the program writes, and its exit status."""
-    done = subprocess.run([program, "replay", "--base", base, *options], input=script, capture_output=True)
-    return done.stdout, done.stderr, done.returncode
+    process = subprocess.run([program, "replay", "--base", base, *options], input=script, capture_output=True)
+    return process.stdout, process.stderr, process.returncode
 
 
 def file_contents(folder):
     """The bytes of each database, and the size of each other file: a write-ahead log has a random salt."""
     files = {file.name: file.read_bytes() for file in sorted(folder.iterdir())}
-    return {name: found if name.endswith(".db") else len(found) for name, found in files.items()}
+    return {name: content if name.endswith(".db") else len(content) for name, content in files.items()}
 
 
 def replay_whole_script(program, base, script):
@@ -46,7 +46,7 @@ def replay_whole_script(program, base, script):
 def script_parts(script):
     lines = script.splitlines(keepends=True)
     size = len(lines) // PART_COUNT + 1
-    return [b"".join(lines[place : place + size]) for place in range(0, len(lines), size)]
+    return [b"".join(lines[start : start + size]) for start in range(0, len(lines), size)]
 
 
 def replay_in_parts(programs, base, script):
@@ -54,30 +54,34 @@ def replay_in_parts(programs, base, script):
     with tempfile.TemporaryDirectory() as folder:
         folder = pathlib.Path(folder)
         runs = []
-        for place, part in enumerate(script_parts(script)):
-            runs.append(replay_script(programs[place % len(programs)], base, part, ["--db", folder / "parts.db"]))
+        for part_number, script_part in enumerate(script_parts(script)):
+            runs.append(replay_script(programs[part_number % len(programs)], base, script_part,
+                                      ["--db", folder / "parts.db"]))
             runs.append(file_contents(folder))
         return runs
 
 
-def compare_programs(one, other, base, script):
+def compare_programs(program, other_program, base, script):
     """Whether all results are the same, and how many lines the first run wrote."""
-    first = replay_whole_script(one, base, script)
-    turns = [replay_in_parts(programs, base, script) for programs in ([one], [other], [one, other], [other, one])]
-    is_same = first == replay_whole_script(other, base, script) and all(runs == turns[0] for runs in turns)
-    ended = all(status == 0 for _, _, status in first[0])
-    return is_same and ended, first[0][0][0].count(b"\n")
+    first_runs = replay_whole_script(program, base, script)
+    runs_of_orders = [replay_in_parts(programs, base, script)
+                      for programs in ([program], [other_program], [program, other_program], [other_program, program])]
+    is_same = first_runs == replay_whole_script(other_program, base,
+                                                script) and all(runs == runs_of_orders[0] for runs in runs_of_orders)
+    all_succeeded = all(status == 0 for _, _, status in first_runs[0])
+    return is_same and all_succeeded, first_runs[0][0][0].count(b"\n")
 
 
 def main():
-    one, other, count = *sys.argv[1:3], int(sys.argv[3])
+    program, other_program, count = *sys.argv[1:3], int(sys.argv[3])
     scripts = [script_of_seed(number) for number in range(count)]
     with concurrent.futures.ThreadPoolExecutor(os.cpu_count()) as pool:
-        results = list(pool.map(lambda it: compare_programs(one, other, *it), scripts))
-    differ = [number for number, (is_same, _) in enumerate(results) if not is_same]
+        results = list(pool.map(lambda base_and_script: compare_programs(program, other_program, *base_and_script),
+                                scripts))
+    differing_seeds = [number for number, (is_same, _) in enumerate(results) if not is_same]
     lines = sum(lines for _, lines in results)
-    print(f"{count} scripts of {lines:,} lines", f"differ: {differ}" if differ else "are the same")
-    sys.exit(1 if differ else 0)
+    print(f"{count} scripts of {lines:,} lines", f"differ: {differing_seeds}" if differing_seeds else "are the same")
+    sys.exit(1 if differing_seeds else 0)
 
 
 if __name__ == "__main__":

@@ -14,8 +14,8 @@ int main(int argc, char **argv)
     *next++ = "-0";
     *next++ = argv[0];
     *next++ = PROGRAM;
-    for (int i = 1; i < argc; i++)
-        *next++ = argv[i];
+    for (int index = 1; index < argc; index++)
+        *next++ = argv[index];
     execv(EMULATOR, words);
     return 127;
 }

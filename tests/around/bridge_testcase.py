@@ -27,7 +27,7 @@ RESPONSE = f'{{"code":0,"data":"{BASE}","name":"OK","type":"response"}}'
 MAX_DIFFERENT_LINES, MAX_SHOWN_LINES, MAX_WIDTH = 60, 12, 240
 # These are not compared: they depend on the time, or on how often the bridge has asked.
 VARYING_TOPIC_ENDS = ("/last_seen", "/counters", "/health")
-Seen = TypeVar("Seen")
+Observation = TypeVar("Seen")
 
 
 def has_module(name: str) -> bool:
@@ -48,21 +48,22 @@ def missing_requirement() -> str:
 
 def printable_start(line: str) -> str:
     """A line as a failure shows it: the first characters, without line breaks and control characters."""
-    return "".join(it if it.isprintable() else repr(it)[1:-1] for it in line[:MAX_WIDTH])
+    return "".join(character if character.isprintable() else repr(character)[1:-1] for character in line[:MAX_WIDTH])
 
 
-def value_lines(value: object) -> list[str]:
+def value_lines(json_value: object) -> list[str]:
     """A value as lines: each member of a list or a dictionary is one."""
-    if isinstance(value, dict):
-        return [f"{key} {value[key]}" for key in sorted(value)]
-    return list(map(str, value)) if isinstance(value, list) else str(value).splitlines()
+    if isinstance(json_value, dict):
+        return [f"{key} {json_value[key]}" for key in sorted(json_value)]
+    return list(map(str, json_value)) if isinstance(json_value, list) else str(json_value).splitlines()
 
 
-def difference_lines(wanted: object, seen: object) -> str:
+def difference_lines(expected: object, observation: object) -> str:
     """The lines that are different, each with the lines next to it."""
-    lines = list(difflib.unified_diff(value_lines(wanted), value_lines(seen), "wanted", "seen", n=1, lineterm=""))
-    more = [f"({len(lines) - MAX_DIFFERENT_LINES} more lines)"] if len(lines) > MAX_DIFFERENT_LINES else []
-    return "\n".join([*map(printable_start, lines[:MAX_DIFFERENT_LINES]), *more])
+    lines = list(difflib.unified_diff(value_lines(expected), value_lines(observation), "wanted", "seen", n=1,
+                                      lineterm=""))
+    count_of_more = [f"({len(lines) - MAX_DIFFERENT_LINES} more lines)"] if len(lines) > MAX_DIFFERENT_LINES else []
+    return "\n".join([*map(printable_start, lines[:MAX_DIFFERENT_LINES]), *count_of_more])
 
 
 class BridgeTest(unittest.TestCase):
@@ -81,12 +82,12 @@ class BridgeTest(unittest.TestCase):
     def setUp(self) -> None:
         self.work = pathlib.Path(self.enterContext(tempfile.TemporaryDirectory()))
         self.broker = self.enterContext(Broker(self.work))
-        self.heard = self.enterContext(Listener(self.broker, self.work))
+        self.listener = self.enterContext(Listener(self.broker, self.work))
         self.bridge = self.enterContext(Bridge(self.work, self.broker))
 
     def start_broker(self) -> None:
         self.broker.start()
-        self.heard.start()
+        self.listener.start()
 
     def start_bridge(self, **settings: str) -> None:
         """Starts the bridge, and waits until it is connected and has compared what the broker retains."""
@@ -95,30 +96,32 @@ class BridgeTest(unittest.TestCase):
 
     def failure_context(self) -> str:
         """The report of a failure, besides the difference."""
-        parts = {"what was published": self.heard.messages(), "the gateway": lines_of(self.bridge.lines_path)}
-        parts |= {path.name: lines_of(path) for path in sorted(self.work.glob("enogate*.journal"))}
-        shown = {name: [f"    {printable_start(line)}" for line in lines[-MAX_SHOWN_LINES:]]
-                 for name, lines in parts.items() if lines}
-        return "\n".join(line for name, lines in shown.items() for line in (f"last lines of {name}:", *lines))
+        lines_by_part = {"what was published": self.listener.messages(),
+                         "the gateway": lines_of(self.bridge.lines_path)}
+        lines_by_part |= {path.name: lines_of(path) for path in sorted(self.work.glob("enogate*.journal"))}
+        shown_by_part = {name: [f"    {printable_start(line)}" for line in lines[-MAX_SHOWN_LINES:]]
+                         for name, lines in lines_by_part.items() if lines}
+        return "\n".join(line for name, lines in shown_by_part.items() for line in (f"last lines of {name}:", *lines))
 
-    def assert_soon(self, see: Callable[[], Seen], wanted: Seen) -> None:
+    def assert_soon(self, observe: Callable[[], Observation], expected: Observation) -> None:
         """`see` returns this within WITHIN seconds."""
-        self.assert_seen(wait_for(see, lambda seen: seen == wanted), wanted)
+        self.assert_seen(wait_for(observe, lambda observation: observation == expected), expected)
 
-    def assert_seen(self, seen: object, wanted: object) -> None:
-        if seen != wanted:
-            self.fail(f"this is not what was wanted:\n{difference_lines(wanted, seen)}\n{self.failure_context()}")
+    def assert_seen(self, observation: object, expected: object) -> None:
+        if observation != expected:
+            differences = difference_lines(expected, observation)
+            self.fail(f"this is not what was wanted:\n{differences}\n{self.failure_context()}")
 
-    def assert_published(self, *wanted: str) -> None:
+    def assert_published(self, *expected_messages: str) -> None:
         """Each of these messages was published. If not, what was published on their topics is shown."""
         def is_complete(messages: list[str]) -> bool:
-            return set(wanted) <= set(messages)
+            return set(expected_messages) <= set(messages)
 
-        messages = wait_for(self.heard.messages, is_complete)
+        messages = wait_for(self.listener.messages, is_complete)
         if not is_complete(messages):
-            topics = {message.split(" ")[0] for message in wanted}
-            seen = [message for message in messages if message.split(" ")[0] in topics]
-            self.assert_seen(seen[-MAX_SHOWN_LINES:], list(wanted))
+            topics = {message.split(" ")[0] for message in expected_messages}
+            topic_messages = [message for message in messages if message.split(" ")[0] in topics]
+            self.assert_seen(topic_messages[-MAX_SHOWN_LINES:], list(expected_messages))
 
     def assert_lines(self, *lines: str) -> None:
         """Each of these lines of the gateway was published."""
@@ -126,24 +129,24 @@ class BridgeTest(unittest.TestCase):
 
     def assert_logged(self, text: str) -> None:
         """A line of the bridge's journal begins with this text."""
-        wanted = f"enogate-mqtt: {text}"
+        expected_line = f"enogate-mqtt: {text}"
 
-        def has_it(journal: list[str]) -> bool:
-            return any(line.startswith(wanted) for line in journal)
+        def has_line(journal: list[str]) -> bool:
+            return any(line.startswith(expected_line) for line in journal)
 
-        journal = wait_for(self.bridge.journal, has_it)
-        if not has_it(journal):
-            self.assert_seen(journal[-MAX_SHOWN_LINES:], [wanted])
+        journal = wait_for(self.bridge.journal, has_line)
+        if not has_line(journal):
+            self.assert_seen(journal[-MAX_SHOWN_LINES:], [expected_line])
 
     def published(self) -> list[str]:
         """The messages that were published besides lines, counters and the state of the devices, sorted."""
-        others = (f"{TOPIC_ROOT}/lines ", f"{TOPIC_ROOT}/counters ", f"{TOPIC_ROOT}/health ")
-        return sorted(message for message in self.heard.messages() if not message.startswith(others))
+        other_starts = (f"{TOPIC_ROOT}/lines ", f"{TOPIC_ROOT}/counters ", f"{TOPIC_ROOT}/health ")
+        return sorted(message for message in self.listener.messages() if not message.startswith(other_starts))
 
     def published_lines(self, kind: str = "") -> list[str]:
         """The lines of the gateway that were published: those of this type, or all."""
         start = f"{TOPIC_ROOT}/lines "
-        messages = [message for message in self.heard.messages() if message.startswith(start)]
+        messages = [message for message in self.listener.messages() if message.startswith(start)]
         return lines_of_type([message.removeprefix(start) for message in messages], kind)
 
     def retained(self) -> dict[str, str]:
@@ -153,9 +156,9 @@ class BridgeTest(unittest.TestCase):
     def wait_for_a_cycle(self) -> None:
         """Waits until the bridge has looked at its lines: it handles messages before them, in each of its cycles."""
         for _ in range(2):
-            before = self.heard.messages().count(ONLINE)
+            count_before = self.listener.messages().count(ONLINE)
             self.broker.publish(f"{TOPIC_ROOT}/status", "offline")
-            self.assert_soon(lambda: self.heard.messages().count(ONLINE) - before, 1)
+            self.assert_soon(lambda: self.listener.messages().count(ONLINE) - count_before, 1)
 
 
 class GatewayTest(BridgeTest):
@@ -182,20 +185,20 @@ class GatewayTest(BridgeTest):
         """A device sends telegrams. Waits for a reading line for each."""
         self.act_and_wait_for_lines(lambda: self.stick.bring(device, *telegrams), len(telegrams), "reading")
 
-    def act_and_wait_for_lines(self, act: Callable[[], None], count: int, kind: str = "") -> None:
+    def act_and_wait_for_lines(self, action: Callable[[], None], count: int, kind: str = "") -> None:
         """Does something, and waits until the gateway has printed this many lines of this type, or more."""
         def line_count() -> int:
             return len(lines_of_type(self.gateway.lines(), kind))
 
-        before = line_count()
-        act()
-        printed = wait_for(lambda: line_count() - before, lambda printed: printed >= count)
-        self.assert_seen(f"{min(printed, count)} new lines of the gateway", f"{count} new lines of the gateway")
+        count_before = line_count()
+        action()
+        line_increase = wait_for(lambda: line_count() - count_before, lambda line_increase: line_increase >= count)
+        self.assert_seen(f"{min(line_increase, count)} new lines of the gateway", f"{count} new lines of the gateway")
 
     def wait_until_handled(self) -> None:
         """Waits until the bridge has handled everything that the gateway has printed (an invalid order is answered),
         and has compared the retained messages."""
-        before = len(self.published_lines("error"))
+        error_count = len(self.published_lines("error"))
         self.gateway.order("settle")
-        self.assert_soon(lambda: len(self.published_lines("error")) - before, 1)
+        self.assert_soon(lambda: len(self.published_lines("error")) - error_count, 1)
         self.assert_soon(lambda: self.broker.has_client(READER), False)

@@ -22,9 +22,9 @@ NEW_KEY_OPTIONS = ["-newkey", "ec", "-pkeyopt", "ec_paramgen_curve:P-256", "-nod
 def free_ports(count: int) -> list[int]:
     """Ports of this computer that nobody uses."""
     sockets = [socket.create_server(("127.0.0.1", 0)) for _ in range(count)]
-    ports = [one.getsockname()[1] for one in sockets]
-    for one in sockets:
-        one.close()
+    ports = [free_socket.getsockname()[1] for free_socket in sockets]
+    for free_socket in sockets:
+        free_socket.close()
     return ports
 
 
@@ -53,9 +53,9 @@ class Certificates:
 
 def access_rules() -> str:
     """The bridge has the rights that the guide lists, and no others."""
-    found = re.search(r"^user enogate\n((?:topic .*\n)+)```$", GUIDE.read_text(), re.MULTILINE)
-    assert found, f"{GUIDE} lists no rights"
-    return f"user {PEOPLE_LOGIN[0]}\ntopic readwrite #\nuser {BRIDGE_LOGIN[0]}\n{found[1]}"
+    rules_match = re.search(r"^user enogate\n((?:topic .*\n)+)```$", GUIDE.read_text(), re.MULTILINE)
+    assert rules_match, f"{GUIDE} lists no rights"
+    return f"user {PEOPLE_LOGIN[0]}\ntopic readwrite #\nuser {BRIDGE_LOGIN[0]}\n{rules_match[1]}"
 
 
 class Broker(Program):
@@ -65,8 +65,8 @@ class Broker(Program):
         super().__init__(work / "broker.journal")
         self.work, self.config = work, work / "broker.conf"
         self.port, self.tls_port = free_ports(2)
-        for number, (user, password) in enumerate((PEOPLE_LOGIN, BRIDGE_LOGIN)):
-            words = ["mosquitto_passwd", *([] if number else ["-c"]), "-b", str(work / "users"), user, password]
+        for user_number, (user, password) in enumerate((PEOPLE_LOGIN, BRIDGE_LOGIN)):
+            words = ["mosquitto_passwd", *([] if user_number else ["-c"]), "-b", str(work / "users"), user, password]
             subprocess.run(words, check=True, capture_output=True)
         (work / "rights").write_text(access_rules())
         self.config.write_text(
@@ -81,9 +81,9 @@ class Broker(Program):
 
     def start(self) -> None:
         self.run(["mosquitto", "-c", self.config])
-        answered = wait_for(lambda: self.run_client("pub", "-r", "-t", END_TOPIC, "-m", "end"),
-                            lambda run: run.returncode == 0)
-        assert answered.returncode == 0, (answered, self.journal())
+        answer = wait_for(lambda: self.run_client("pub", "-r", "-t", END_TOPIC, "-m", "end"),
+                          lambda run: run.returncode == 0)
+        assert answer.returncode == 0, (answer, self.journal())
 
     def client_command(self, kind: str, *words: str) -> list[str]:
         """The command of a client of the user `people`."""
@@ -106,16 +106,16 @@ class Broker(Program):
         """The messages that the broker retains, by topic."""
         filters = [word for topic in ("enogate/#", "homeassistant/#", END_TOPIC) for word in ("-t", topic)]
         words = self.client_command("sub", "--retained-only", "-W", "10", "-F", "%t %x", *filters)
-        found = {}
+        text_by_topic = {}
         with subprocess.Popen(words, stdout=subprocess.PIPE, text=True) as client:
             assert client.stdout is not None
             for line in client.stdout:
                 topic, payload = topic_and_payload(line)
                 if topic == END_TOPIC:
                     client.kill()
-                    return found
-                found[topic] = payload
-        raise AssertionError(f"not everything that is retained was received: {found}")
+                    return text_by_topic
+                text_by_topic[topic] = payload
+        raise AssertionError(f"not everything that is retained was received: {text_by_topic}")
 
 
 def topic_and_payload(line: str) -> tuple[str, str]:
@@ -129,7 +129,7 @@ class Listener(Program):
 
     def __init__(self, broker: Broker, work: pathlib.Path):
         super().__init__(work / "listener.journal")
-        self.broker, self.path, self.forgotten = broker, work / "published", 0
+        self.broker, self.path, self.forgotten_count = broker, work / "published", 0
 
     def start(self) -> None:
         """Starts to listen, and forgets earlier messages."""
@@ -144,9 +144,9 @@ class Listener(Program):
 
     def forget(self) -> None:
         """Forgets the messages that have come until now."""
-        self.forgotten = len(lines_of(self.path))
+        self.forgotten_count = len(lines_of(self.path))
 
     def messages(self) -> list[str]:
         """The messages, each as TOPIC PAYLOAD, in their sequence."""
-        found = map(topic_and_payload, lines_of(self.path)[self.forgotten:])
-        return [" ".join(one) for one in found if one[0] != PROBE_TOPIC]
+        topics_and_payloads = map(topic_and_payload, lines_of(self.path)[self.forgotten_count:])
+        return [" ".join(topic_and_text) for topic_and_text in topics_and_payloads if topic_and_text[0] != PROBE_TOPIC]

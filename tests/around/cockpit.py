@@ -46,10 +46,10 @@ class Machine:
         self.work, self.services = work, work / "services"
         for folder in (self.services, work / "bin"):
             folder.mkdir(exist_ok=True)
-        for place, part in (("/run", "run/enogate"), ("/var/log", "log/enogate")):
-            mount("-t", "tmpfs", "test", place)
-            os.mkdir(f"{place}/enogate")
-            mount("--bind", work / part, f"{place}/enogate")
+        for mount_point, source_name in (("/run", "run/enogate"), ("/var/log", "log/enogate")):
+            mount("-t", "tmpfs", "test", mount_point)
+            os.mkdir(f"{mount_point}/enogate")
+            mount("--bind", work / source_name, f"{mount_point}/enogate")
         # The state of the bridge is beside files that other programs need.
         for name in ("upper", "work"):
             os.mkdir(f"/run/{name}")
@@ -70,13 +70,13 @@ class Machine:
 
     def mount_devices(self) -> None:
         """Mounts a directory over /dev that has the same files, and can get others."""
-        parts = ("pts", "shm")
-        for name in (*parts, "upper-dev", "work-dev"):
+        device_folders = ("pts", "shm")
+        for name in (*device_folders, "upper-dev", "work-dev"):
             os.mkdir(f"/run/{name}")
-        for name in parts:
+        for name in device_folders:
             mount("--bind", f"/dev/{name}", f"/run/{name}")
         mount("-t", "overlay", "test", "/dev", "-o", "lowerdir=/dev,upperdir=/run/upper-dev,workdir=/run/work-dev")
-        for name in parts:
+        for name in device_folders:
             mount("--bind", f"/run/{name}", f"/dev/{name}")
         os.makedirs("/dev/serial/by-id", exist_ok=True)
 
@@ -219,8 +219,8 @@ class Browser:
     def heap(self) -> int:
         """How many bytes the scripts use."""
         self.driver.execute_cdp_cmd("HeapProfiler.collectGarbage", {})
-        found = self.driver.execute_cdp_cmd("Performance.getMetrics", {})["metrics"]
-        return next(int(metric["value"]) for metric in found if metric["name"] == "JSHeapUsedSize")
+        metrics = self.driver.execute_cdp_cmd("Performance.getMetrics", {})["metrics"]
+        return next(int(metric["value"]) for metric in metrics if metric["name"] == "JSHeapUsedSize")
 
     def shoot(self, path: pathlib.Path) -> None:
         self.driver.save_screenshot(str(path))

@@ -58,8 +58,8 @@ class CtlTest(unittest.TestCase):
     @classmethod
     def ctl(cls, *words: str, text: str = "") -> Run:
         """Runs a command with this standard input."""
-        done = subprocess.run(cls.words(*words), input=text, capture_output=True, text=True, timeout=60)
-        return Run(done.returncode, done.stdout, done.stderr)
+        process = subprocess.run(cls.words(*words), input=text, capture_output=True, text=True, timeout=60)
+        return Run(process.returncode, process.stdout, process.stderr)
 
     def begin(self, *words: str) -> subprocess.Popen[str]:
         """Starts a command."""
@@ -82,9 +82,9 @@ class CtlTest(unittest.TestCase):
         self.assertEqual((run.status, run.out), (status, ""), run)
         self.assertIn(err, run.err)
 
-    def assert_soon(self, see, wanted: object) -> None:
+    def assert_soon(self, observe, expected: object) -> None:
         """`see` returns this within WITHIN seconds."""
-        self.assertEqual(wait_for(see, lambda seen: seen == wanted), wanted)
+        self.assertEqual(wait_for(observe, lambda observation: observation == expected), expected)
 
     def status(self) -> dict[str, Any]:
         """The members of the answer to `status`."""
@@ -99,17 +99,17 @@ class CtlTest(unittest.TestCase):
     def process(self) -> int:
         """The process of the gateway itself."""
         words = ["pgrep", "-g", str(self.gateway.process.pid), "-x", "enogate"]
-        found = wait_for(lambda: subprocess.run(words, capture_output=True, text=True).stdout.split(), bool)
-        return int(found[0])
+        process_numbers = wait_for(lambda: subprocess.run(words, capture_output=True, text=True).stdout.split(), bool)
+        return int(process_numbers[0])
 
-    def hang(self) -> None:
+    def stop_gateway(self) -> None:
         """The gateway stops until `go_on`. At the end of the test it answers all orders."""
         self.hanging = self.process()
         self.addCleanup(self.ctl, "status")
-        self.addCleanup(self.go_on)
+        self.addCleanup(self.continue_gateway)
         os.kill(self.hanging, signal.SIGSTOP)
 
-    def go_on(self) -> None:
+    def continue_gateway(self) -> None:
         """The gateway continues."""
         try:
             os.kill(self.hanging, signal.SIGCONT)

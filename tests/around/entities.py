@@ -60,28 +60,30 @@ def rows_by_profile():
         yield eep, BLIND_STATE_FIELDS if eep == "D2-05-00" else ACTUATOR_STATE_FIELDS + METER_READING_FIELDS
 
 
-def values_of_row(kind, length):
+def values_of_row(decoder, length):
     """The values of a row that are numbers, by ascending raw number."""
-    read = [kind(number, "0" * 64) for number in range(2 ** min(length, 10))]
-    return [Fraction(one["num"], one["den"]) if "num" in one else Fraction(one["raw"]) for one in read
-            if "num" in one or "raw" in one]
+    readings = [decoder(number, "0" * 64) for number in range(2 ** min(length, 10))]
+    return [Fraction(reading["num"], reading["den"]) if "num" in reading else Fraction(reading["raw"])
+            for reading in readings
+            if "num" in reading or "raw" in reading]
 
 
 def fewest_digits(eep, name, unit):
     """The fewest digits after the point with which adjacent raw numbers look different."""
-    kinds = [(kind, length) for profile, rows in rows_by_profile() if profile == eep
-             for row, _offset, length, _condition, kind in rows
-             if row == name and unit in units_and_words(kind, length)[0] | {"-"}]
-    found = [value for kind, length in kinds[:1] for value in values_of_row(kind, length)]
+    decoders = [(decoder, length) for profile, rows in rows_by_profile() if profile == eep
+                for row, _offset, length, _condition, decoder in rows
+                if row == name and unit in units_and_words(decoder, length)[0] | {"-"}]
+    values = [value for decoder, length in decoders[:1] for value in values_of_row(decoder, length)]
     return next(digits for digits in range(10) if all(
-        f"{float(one):.{digits}f}" != f"{float(other):.{digits}f}" for one, other in zip(found, found[1:])))
+        f"{float(value_text):.{digits}f}" != f"{float(next_value):.{digits}f}"
+        for value_text, next_value in zip(values, values[1:])))
 
 
-def units_and_words(kind, length):
+def units_and_words(decoder, length):
     """The units and the words of a row, and whether it has numbers without a unit."""
     units, words, is_plain = set(), set(), False
     for number in range(2 ** length) if length <= 10 else [0, 1]:
-        reading = kind(number, "0" * 64)
+        reading = decoder(number, "0" * 64)
         units |= {reading["unit"]} if "unit" in reading else set()
         words |= {reading["word"]} if "word" in reading else set()
         is_plain |= "raw" in reading or "out_of_range" in reading and not units
@@ -90,13 +92,14 @@ def units_and_words(kind, length):
 
 def words_by_reading():
     """Each reading of each profile: (profile, name, unit), with its words. A word beside values has their unit."""
-    found = {}
+    words_of_readings = {}
     for eep, rows in rows_by_profile():
         for name, _offset, length, _condition, kind in rows:
             units, words, is_plain = units_and_words(kind, length)
             for unit in units or {"-"}:
-                found.setdefault((eep, name, unit), set()).update(words or ({"0", "1"} if is_plain else set()))
-    return found
+                words_of_readings.setdefault((eep, name, unit),
+                                             set()).update(words or ({"0", "1"} if is_plain else set()))
+    return words_of_readings
 
 
 def is_line_of(line, reading):
@@ -121,93 +124,95 @@ def numbers_text(reading):
     return f"{NUMBER_READINGS[eep[:5]]}{'?' if name == 'MV' else ':'}{count}"
 
 
-def faults_of_words(entity, more, reading, words):
+def faults_of_words(entity, config, reading, words):
     """The faults in the words that a line has for those of its reading."""
-    own = {more[key] for key in ("on", "off") if key in more}
-    own |= set("|".join(more[key] for key in ("options", "types") if key in more).split("|")) - {""}
+    own_words = {config[key] for key in ("on", "off") if key in config}
+    own_words |= set("|".join(config[key] for key in ("options", "types") if key in config).split("|")) - {""}
     if entity == "event":
         words = {word for word in words if (reading[1], word) not in WORDS_WITHOUT_EVENT}
-    has_words = entity in ("event", "binary_sensor") or "options" in more
-    if own != (words if has_words else set()):
+    has_words = entity in ("event", "binary_sensor") or "options" in config
+    if own_words != (words if has_words else set()):
         yield "other words"
-    if entity == "binary_sensor" and not {"on", "off"} <= more.keys():
+    if entity == "binary_sensor" and not {"on", "off"} <= config.keys():
         yield "a binary sensor without its two words"
-    if not more.keys() <= ROW_KEYS or "unit" in more and entity != "sensor":
+    if not config.keys() <= ROW_KEYS or "unit" in config and entity != "sensor":
         yield "a word that an entity of this kind has not"
 
 
-def faults_of_sensor(more, unit):
+def faults_of_sensor(config, unit):
     """The faults of a sensor for values of this unit."""
-    written = UNITS_AS_WRITTEN.get(unit, unit)
-    units, states = SENSOR_CLASSES.get(more.get("class"), ({written}, MEASURED_STATES | COUNTED_STATES))
-    state = more.get("state")
-    if more.get("unit", "-") != written or written not in units:
+    shown_unit = UNITS_AS_WRITTEN.get(unit, unit)
+    units, states = SENSOR_CLASSES.get(config.get("class"), ({shown_unit}, MEASURED_STATES | COUNTED_STATES))
+    state = config.get("state")
+    if config.get("unit", "-") != shown_unit or shown_unit not in units:
         yield "another unit"
     if unit != "-" and state != ("total_increasing" if unit in GROWING_UNITS else "measurement"):
         yield "another state class"
     if state not in {*states, None}:
         yield "a state class that its class has not"
-    if "class" not in more and written != "%" and any(written in units for units, _ in SENSOR_CLASSES.values()):
+    if "class" not in config and shown_unit != "%" and any(shown_unit in units for units, _ in SENSOR_CLASSES.values()):
         yield "no class"
 
 
-def faults_of_digits(entity, more, reading):
+def faults_of_digits(entity, config, reading):
     """The faults in how many digits of a number are shown."""
-    if (entity == "sensor" and ("unit" in more or "state" in more)) != ("digits" in more):
+    if (entity == "sensor" and ("unit" in config or "state" in config)) != ("digits" in config):
         yield "digits without a number, or the other way round"
-    elif "digits" in more and reading[0][:5] in MAX_CHOSEN_DIGITS:
-        if not 0 <= int(more["digits"]) <= MAX_CHOSEN_DIGITS[reading[0][:5]]:
+    elif "digits" in config and reading[0][:5] in MAX_CHOSEN_DIGITS:
+        if not 0 <= int(config["digits"]) <= MAX_CHOSEN_DIGITS[reading[0][:5]]:
             yield "too many digits"
-    elif "digits" in more and int(more["digits"]) != fewest_digits(*reading):
-        yield f"{more['digits']} digits, and not {fewest_digits(*reading)}"
+    elif "digits" in config and int(config["digits"]) != fewest_digits(*reading):
+        yield f"{config['digits']} digits, and not {fewest_digits(*reading)}"
 
 
 def faults_of(line, reading, words):
     """The faults of a line for this reading."""
-    _profiles, _name, unit, topic, by, entity, title, *more = line
-    more = dict(word.partition("=")[::2] for word in more)
-    if more.get("class") not in CLASSES_BY_COMPONENT[entity]:
+    _profiles, _name, unit, topic, channel_reading, entity, title, *config_words = line
+    config_words = dict(word.partition("=")[::2] for word in config_words)
+    if config_words.get("class") not in CLASSES_BY_COMPONENT[entity]:
         yield "an unknown class"
-    if (entity == "-") != (topic == "-") or entity == "-" and (by != "-" or more.keys() - KEYS_FOR_PEOPLE):
+    if (entity == "-") != (topic == "-") or entity == "-" and (channel_reading != "-"
+                                                               or config_words.keys() - KEYS_FOR_PEOPLE):
         yield "a topic without an entity, or the other way round"
-    if title == "-" and "say" not in more:
+    if title == "-" and "say" not in config_words:
         yield "no name for people"
-    if not set(more.get("normal", "0").split("|")) <= {*words, "0"}:
+    if not set(config_words.get("normal", "0").split("|")) <= {*words, "0"}:
         yield "a normal value that it has not"
-    yield from faults_of_words(entity, more, reading, words)
-    yield from faults_of_digits(entity, more, reading)
+    yield from faults_of_words(entity, config_words, reading, words)
+    yield from faults_of_digits(entity, config_words, reading)
     if entity == "sensor":
-        yield from faults_of_sensor(more, unit)
+        yield from faults_of_sensor(config_words, unit)
     driving = driving_component(reading)
     if driving not in (None, entity) or entity in ("switch", "light", "cover") and not driving:
         yield "an entity of another kind"
-    if entity != "-" and by != numbers_text(reading):
+    if entity != "-" and channel_reading != numbers_text(reading):
         yield "other numbers"
-    if (title == "-") != (entity == "-" or driving_component(reading) is not None and not by.endswith("2")):
+    if (title == "-") != (entity == "-" or driving_component(reading) is not None
+                          and not channel_reading.endswith("2")):
         yield "a name that it has not, or none"
-    if ("cyclic" in more) != (entity != "-" and reading[0][:5] in CYCLIC_PROFILES):
+    if ("cyclic" in config_words) != (entity != "-" and reading[0][:5] in CYCLIC_PROFILES):
         yield "it is cyclic and the device not, or the other way round"
-    if not 100 <= int(more.get("cyclic", 100)) <= 1800:
+    if not 100 <= int(config_words.get("cyclic", 100)) <= 1800:
         yield "a device that sends at another interval"
 
 
 def main():
     with open(sys.argv[1], encoding="utf-8") as file:
         lines = [shlex.split(line, comments=True) for line in file]
-    lines, used, wrong = [line for line in lines if line], set(), []
-    every = words_by_reading()
-    for reading, words in every.items():
+    lines, used_lines, wrong_lines = [line for line in lines if line], set(), []
+    words_of_readings = words_by_reading()
+    for reading, words in words_of_readings.items():
         line = next((line for line in lines if is_line_of(line, reading)), None)
         if line is None:
-            wrong.append(f"{reading} has no line")
+            wrong_lines.append(f"{reading} has no line")
             continue
-        used.add(lines.index(line))
-        wrong += [f"{reading}: {fault}" for fault in faults_of(line, reading, words)]
-    wrong += [f"{line[:3]} is for no reading" for number, line in enumerate(lines) if number not in used]
-    if len(every) < 357:
-        wrong.append(f"the profiles have {len(every)} readings alone")
-    print(*wrong, sep="\n", end="\n" if wrong else "")
-    sys.exit(bool(wrong))
+        used_lines.add(lines.index(line))
+        wrong_lines += [f"{reading}: {fault}" for fault in faults_of(line, reading, words)]
+    wrong_lines += [f"{line[:3]} is for no reading" for number, line in enumerate(lines) if number not in used_lines]
+    if len(words_of_readings) < 357:
+        wrong_lines.append(f"the profiles have {len(words_of_readings)} readings alone")
+    print(*wrong_lines, sep="\n", end="\n" if wrong_lines else "")
+    sys.exit(bool(wrong_lines))
 
 
 main()

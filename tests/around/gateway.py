@@ -13,8 +13,8 @@ RESPONSE = {"code": 0, "data": "FF800000", "name": "OK", "type": "response"}
 
 
 def line_of_reading(device, channel):
-    numbers = {"PF": 0, "PFD": 0, "OC": 0, "IO": channel, "LC": 1}
-    readings = [{"name": name, "raw": number} for name, number in numbers.items()]
+    number_by_reading = {"PF": 0, "PFD": 0, "OC": 0, "IO": channel, "LC": 1}
+    readings = [{"name": name, "raw": number} for name, number in number_by_reading.items()]
     readings += [{"name": "EL", "word": "ok"}, {"den": 1, "name": "OV", "num": 100, "unit": "%"}]
     return {"dbm": -45, "eep": "D2-01-12", "id": device, "readings": readings, "type": "reading"}
 
@@ -31,16 +31,16 @@ def answer_lines(order, devices):
 
 
 def main():
-    devices = [f"{0x01800000 + number:08X}" for number in range(int(sys.argv[3]))]
+    devices = [f"{0x01800000 + device_number:08X}" for device_number in range(int(sys.argv[3]))]
     with open(sys.argv[1], "w+", encoding="utf-8") as desk, open(sys.argv[2], "a", encoding="utf-8") as lines:
-        def write_line(found):
-            lines.write("".join(json.dumps(line, separators=(",", ":")) + "\n" for line in found))
+        def write_line(new_lines):
+            lines.write("".join(json.dumps(line, separators=(",", ":")) + "\n" for line in new_lines))
             lines.flush()
         if "--readings" in sys.argv:
             write_line(line_of_reading(name, channel) for name in devices for channel in (0, 1))
-        rest = ""
+        unended_text = ""
         while True:
-            *orders, rest = (rest + desk.read(256)).split("\n")
+            *orders, unended_text = (unended_text + desk.read(256)).split("\n")
             for order in orders:
                 write_line(answer_lines(order, devices))
             time.sleep(0.1)

@@ -18,21 +18,21 @@ fields = [dict(re.findall(r"^([A-Z]\w+):((?:.*\n?)(?:[ \t].*\n?)*)", text + "\n"
 def used_crates(crate):
     """The crates of the toolchain that a crate names, except for those that are its own modules."""
     sources = [path for path in (kit / crate / "src").rglob("*.rt") if "tests" not in path.parts]
-    own = {path.stem for path in sources} | {path.parent.name for path in sources}
+    own_modules = {path.stem for path in sources} | {path.parent.name for path in sources}
     names = {name for path in sources for name in re.findall(r"^\s*(?:pub )?use (\w+)(?:::|;)", path.read_text(), re.M)}
-    return {name for name in names - own if (kit / name / "src").is_dir()}
+    return {name for name in names - own_modules if (kit / name / "src").is_dir()}
 
 
 def all_crates():
     """All crates of the toolchain in the program."""
     lines = [line.split(":") for line in (root / "crates.txt").read_text().split("\n") if ":" in line]
-    todo = {name for _, names in lines for name in names.split() if (kit / name / "src").is_dir()}
-    found = set()
-    while todo:
-        crate = todo.pop()
-        found.add(crate)
-        todo |= used_crates(crate) - found
-    return sorted(found)
+    unvisited = {name for _, names in lines for name in names.split() if (kit / name / "src").is_dir()}
+    crates_found = set()
+    while unvisited:
+        crate = unvisited.pop()
+        crates_found.add(crate)
+        unvisited |= used_crates(crate) - crates_found
+    return sorted(crates_found)
 
 
 def joined_words(text):
@@ -54,11 +54,11 @@ for crate in all_crates():
                 faults.append(f"{crate}: {license.name} has another text")
         elif "Apache License" not in text:
             faults.append(f"{crate}: {license.name} is no license that this script knows")
-        own = [field for field in fields if field.get("Files", "").strip() == f"rattle/{crate}/*"]
-        if not own or kind not in own[0]["License"]:
+        own_fields = [field for field in fields if field.get("Files", "").strip() == f"rattle/{crate}/*"]
+        if not own_fields or kind not in own_fields[0]["License"]:
             faults.append(f"{crate}: no paragraph with the license {kind}")
         else:
-            faults += [f"{crate}: {line}" for line in notices if line not in own[0]["Copyright"]]
+            faults += [f"{crate}: {line}" for line in notices if line not in own_fields[0]["Copyright"]]
     if not any(path for path in (kit / crate).glob("LICENSE*")) and (kit / crate / "NOTICE").exists():
         faults.append(f"{crate}: a notice without a license")
 print(*faults, sep="\n", end="\n" if faults else "")

@@ -12,15 +12,15 @@ from typing import Callable, Self, Sequence, TypeVar
 WITHIN = 30.0
 MAX_LIFE = 1800
 PAUSE = 0.02
-Seen = TypeVar("Seen")
+Observation = TypeVar("Seen")
 
 
-def wait_for(see: Callable[[], Seen], is_so: Callable[[Seen], object]) -> Seen:
+def wait_for(observe: Callable[[], Observation], is_expected: Callable[[Observation], object]) -> Observation:
     """The result of `see` once it is true, or after WITHIN seconds."""
-    end = time.monotonic() + WITHIN
-    while not is_so(seen := see()) and time.monotonic() < end:
+    deadline = time.monotonic() + WITHIN
+    while not is_expected(observation := observe()) and time.monotonic() < deadline:
         time.sleep(PAUSE)
-    return seen
+    return observation
 
 
 def lines_of(path: pathlib.Path) -> list[str]:
@@ -52,15 +52,15 @@ class Program:
     def is_running(self) -> bool:
         return self.process is not None and self.process.poll() is None
 
-    def send(self, number: signal.Signals) -> None:
+    def send(self, signal_number: signal.Signals) -> None:
         """Sends a signal to each of its processes."""
         assert self.process is not None
-        os.killpg(self.process.pid, number)
+        os.killpg(self.process.pid, signal_number)
 
-    def end(self, number: signal.Signals = signal.SIGTERM) -> None:
+    def end(self, signal_number: signal.Signals = signal.SIGTERM) -> None:
         """Ends it with a signal, if it runs."""
         if self.process is not None and self.is_running():
-            self.send(number)
+            self.send(signal_number)
             self.process.wait(WITHIN)
 
     def journal(self) -> list[str]:

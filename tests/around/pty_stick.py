@@ -33,9 +33,9 @@ class Stick:
             self.unplug()
         os.close(self.line)
 
-    def bring(self, received: bytes) -> None:
+    def bring(self, packet_bytes: bytes) -> None:
         """The module receives these bytes."""
-        os.write(self.module, received)
+        os.write(self.module, packet_bytes)
 
     def unplug(self) -> None:
         os.close(self.module)
@@ -51,7 +51,7 @@ class Stick:
         seconds."""
         os.write(self.line, MARK)
         while not self.sent.endswith(MARK):
-            before = len(self.sent)
+            size_before = len(self.sent)
             self.collect(seconds)
-            assert len(self.sent) > before, "the pseudo-terminal does not pass on what was sent"
+            assert len(self.sent) > size_before, "the pseudo-terminal does not pass on what was sent"
         self.sent = self.sent.removesuffix(MARK)

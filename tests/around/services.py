@@ -46,9 +46,9 @@ class Stick(Program):
             rorg, payload, status = (*words, "0")[:3]
             self.bring_packet(telegram_packet(int(rorg, 16), bytes.fromhex(payload), int(device, 16), int(status, 16)))
 
-    def bring_packet(self, received: bytes) -> None:
+    def bring_packet(self, packet_bytes: bytes) -> None:
         with self.brought.open("a") as file:
-            file.write(received.hex() + "\n")
+            file.write(packet_bytes.hex() + "\n")
 
     def sent(self) -> str:
         """All bytes that the gateway has sent to the stick, except for the question for its base ID."""
@@ -134,8 +134,8 @@ class Bridge(Unit):
         shown at once, and actuators are not asked for their states."""
         login = {"MQTT_PORT": str(self.broker.port), "MQTT_USER": BRIDGE_LOGIN[0],
                  "MQTT_PASSWORD_FILE": str(self.password)}
-        own = {"MQTT_EXPIRE_AFTER": "7200", "MQTT_LABEL_SECONDS": "0", "MQTT_QUERY": "no"}
-        self.run_unit(**{**own, **login, **settings})
+        default_settings = {"MQTT_EXPIRE_AFTER": "7200", "MQTT_LABEL_SECONDS": "0", "MQTT_QUERY": "no"}
+        self.run_unit(**{**default_settings, **login, **settings})
 
     def saved_offset(self) -> int:
         """Up to which offset its state file says that the lines were read; 0 if it does not say it yet."""

@@ -26,10 +26,10 @@ ENTITIES_OF_EVERY_DEVICE = {
 }
 
 
-def is_number(value):
+def is_number(template_value):
     """The filter of Home Assistant."""
     try:
-        return abs(float(value)) < float("inf")
+        return abs(float(template_value)) < float("inf")
     except ValueError:
         return False
 
@@ -45,15 +45,15 @@ def rendered_results(template):
     return [engine.from_string(template).render(sample) for sample in samples]
 
 
-def fact_text(key, value):
+def fact_text(key, fact):
     """A key and its value, as one text."""
     if key == "availability":
-        value = [f"{one.pop('topic')}{one or ''}" for one in value]
+        fact = [f"{availability.pop('topic')}{availability or ''}" for availability in fact]
     elif key.endswith("template"):
-        value = rendered_results(value)
-    if isinstance(value, list):
-        value = "|".join(value)
-    return f"{key}={'' if value is None else value}"
+        fact = rendered_results(fact)
+    if isinstance(fact, list):
+        fact = "|".join(fact)
+    return f"{key}={'' if fact is None else fact}"
 
 
 class ShownEntities:
@@ -66,10 +66,10 @@ class ShownEntities:
 
     def add_message(self, topic, config):
         """Reads a message."""
-        _, component, node, name, end = topic.split("/")
+        _, component, node, name, topic_end = topic.split("/")
         device, origin = config.pop("device"), config.pop("origin")
         self.versions.add(origin.pop("sw"))
-        assert (node, end, origin) == (f"enogate_{self.name}", "config", {"name": "enogate-mqtt"}), topic
+        assert (node, topic_end, origin) == (f"enogate_{self.name}", "config", {"name": "enogate-mqtt"}), topic
         (identifier,) = device.pop("identifiers")
         assert self.devices.setdefault(identifier, device) == device, topic
         if component == "device_automation":
@@ -81,32 +81,33 @@ class ShownEntities:
         if config:
             assert config.get("expire_after", self.seconds) == self.seconds, topic
             words = ["    expires"] if config.pop("expire_after", None) else []
-            facts = [f"    {fact_text(*item)}" for item in sorted(config.items())]
+            facts = [f"    {fact_text(*key_and_value)}" for key_and_value in sorted(config.items())]
             self.entities.append([f"{component} {name}", *facts, *words])
 
     def check_trigger(self, topic, name, config):
         """Checks what all triggers have alike."""
-        device, place, _ = name.split("_", 2)
+        device, trigger_name, _ = name.split("_", 2)
         assert config.pop("automation_type") == "trigger", topic
-        assert config.pop("topic") == f"enogate/{self.name}/{device}/{place}", topic
+        assert config.pop("topic") == f"enogate/{self.name}/{device}/{trigger_name}", topic
         assert rendered_results(config.pop("value_template")) == [SAMPLE_JSON["event_type"]], topic
         kind = config.pop("payload")
-        assert (name, config.pop("subtype")) == (f"{device}_{place}_{kind}", kind), topic
+        assert (name, config.pop("subtype")) == (f"{device}_{trigger_name}_{kind}", kind), topic
 
     def check_common_parts(self, topic, component, name, identifier, config):
         """Checks what all entities and triggers of devices have alike."""
-        device, place = name.split("_", 1)
-        own = f"enogate/{self.name}"
+        device, entity_name = name.split("_", 1)
+        topic_root = f"enogate/{self.name}"
         assert identifier == f"enogate_{self.name}_{device}", topic
         if component == "device_automation":
             return
-        states = [{"topic": f"{own}/{name}"} for name in ("status", "gateway", "module")]
+        states = [{"topic": f"{topic_root}/{name}"} for name in ("status", "gateway", "module")]
         assert config.pop("availability") == states, topic
         assert config.pop("availability_mode") == "all", topic
-        if place in ENTITIES_OF_EVERY_DEVICE:
-            wanted = {**ENTITIES_OF_EVERY_DEVICE[place], "state_topic": f"{own}/{device}/{place}"}
-            assert component == "sensor" and config == wanted
-            self.everywhere.setdefault(identifier, set()).add(place)
+        if entity_name in ENTITIES_OF_EVERY_DEVICE:
+            expected_members = {**ENTITIES_OF_EVERY_DEVICE[entity_name],
+                                "state_topic": f"{topic_root}/{device}/{entity_name}"}
+            assert component == "sensor" and config == expected_members
+            self.everywhere.setdefault(identifier, set()).add(entity_name)
             config.clear()
 
     def check_devices(self):
@@ -129,12 +130,12 @@ class ShownEntities:
 
 
 def main():
-    shown = ShownEntities(sys.argv[1], int(sys.argv[2]) if len(sys.argv) > 2 else None)
+    shown_entities = ShownEntities(sys.argv[1], int(sys.argv[2]) if len(sys.argv) > 2 else None)
     for line in sys.stdin:
         topic, payload = line.rstrip("\n").split(" ", 1)
-        shown.add_message(topic, json.loads(payload))
-    shown.check_devices()
-    shown.print_all()
+        shown_entities.add_message(topic, json.loads(payload))
+    shown_entities.check_devices()
+    shown_entities.print_all()
 
 
 main()

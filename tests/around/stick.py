@@ -12,7 +12,7 @@ import termios
 import time
 import tty
 
-link, brought, sent, answer = (sys.argv[1:] + [""])[:4]
+link_path, brought_path, sent_path, answer = (sys.argv[1:] + [""])[:4]
 QUESTION = bytes.fromhex("5500010005700838")
 master, slave = os.openpty()
 tty.setraw(slave)
@@ -20,10 +20,10 @@ settings = termios.tcgetattr(slave)
 settings[4] = settings[5] = termios.B57600
 settings[6][termios.VMIN], settings[6][termios.VTIME] = 0, 1
 termios.tcsetattr(slave, termios.TCSANOW, settings)
-os.symlink(os.ttyname(slave), link)
+os.symlink(os.ttyname(slave), link_path)
 if answer:
     os.close(slave)
-with open(brought) as source, open(sent, "a") as sink:
+with open(brought_path) as source, open(sent_path, "a") as sink:
     line = ""
     while True:
         line += source.readline()
@@ -32,11 +32,11 @@ with open(brought) as source, open(sent, "a") as sink:
             line = ""
         if select.select([master], [], [], 0.02)[0]:
             try:
-                got = os.read(master, 4096)
-                if answer and QUESTION in got:
-                    got = got.replace(QUESTION, b"")
+                chunk = os.read(master, 4096)
+                if answer and QUESTION in chunk:
+                    chunk = chunk.replace(QUESTION, b"")
                     os.write(master, bytes.fromhex(answer))
-                sink.write(got.hex())
+                sink.write(chunk.hex())
             except OSError:  # it was hung up, or nobody has it open
                 if answer:
                     time.sleep(0.02)

@@ -73,7 +73,7 @@ class TerminalTest(LiveTest):
         """A new stick is the serial line. A read of it waits for this many tenths of a second."""
         self.stick = self.enterContext(Stick(tenths))
         self.line = self.stick.path
-        self.wanted_sent = b""
+        self.expected_sent = b""
 
     def start_program(self, name: str, *words: str | pathlib.Path, output: pathlib.Path | None = None
                       ) -> BackgroundProgram:
@@ -82,69 +82,69 @@ class TerminalTest(LiveTest):
         self.programs[name] = program
         return program
 
-    def start_gateway(self, *options: str | pathlib.Path, turns: int = AN_HOUR) -> None:
+    def start_gateway(self, *options: str | pathlib.Path, turn_count: int = AN_HOUR) -> None:
         """Starts a gateway."""
-        self.wanted_lines = ""
-        self.gateway = self.start_program("the gateway", PROGRAM, *self.live_command(*options, turns=turns))
+        self.expected_lines = ""
+        self.gateway = self.start_program("the gateway", PROGRAM, *self.live_command(*options, turn_count=turn_count))
 
-    def start(self, *options: str | pathlib.Path, turns: int = AN_HOUR) -> None:
+    def start(self, *options: str | pathlib.Path, turn_count: int = AN_HOUR) -> None:
         """Starts a gateway, and waits until there is a file of answers, which it opens last."""
-        self.start_gateway(*options, turns=turns)
+        self.start_gateway(*options, turn_count=turn_count)
         self.assert_made(self.answers)
 
-    def order(self, text: str, *lines: str, sent: bytes = b"") -> None:
+    def order(self, text: str, *lines: str, expected_bytes: bytes = b"") -> None:
         """Writes this text to the desk. It is answered with these lines, and these bytes are sent to the stick."""
         desk = os.open(self.orders, os.O_WRONLY | os.O_APPEND | os.O_NOCTTY)
         os.write(desk, text.encode())
         os.close(desk)
-        self.assert_new_output(*lines, sent=sent)
+        self.assert_new_output(*lines, expected_bytes=expected_bytes)
 
-    def bring(self, received: bytes, *lines: str, sent: bytes = b"") -> None:
+    def bring(self, packet_bytes: bytes, *lines: str, expected_bytes: bytes = b"") -> None:
         """The stick receives these bytes. They are answered with these lines and these bytes."""
-        self.stick.bring(received)
-        self.assert_new_output(*lines, sent=sent)
+        self.stick.bring(packet_bytes)
+        self.assert_new_output(*lines, expected_bytes=expected_bytes)
 
-    def assert_new_output(self, *lines: str, sent: bytes = b"") -> None:
+    def assert_new_output(self, *lines: str, expected_bytes: bytes = b"") -> None:
         """After what was expected before, exactly these lines are written, and these bytes are sent."""
-        self.wanted_lines += "".join(lines)
-        self.wanted_sent += sent
-        self.assert_comes("the lines", self.written_lines, self.wanted_lines)
-        self.assert_comes("the bytes sent to the stick", lambda: self.stick.sent.hex(), self.wanted_sent.hex())
+        self.expected_lines += "".join(lines)
+        self.expected_sent += expected_bytes
+        self.assert_comes("the lines", self.written_lines, self.expected_lines)
+        self.assert_comes("the bytes sent to the stick", lambda: self.stick.sent.hex(), self.expected_sent.hex())
 
     def written_lines(self) -> str:
         """The lines that the gateway has written."""
         return decoded_text(self.lines.read_bytes()) if self.lines.exists() else ""
 
-    def assert_comes(self, what: str, see: Callable[[], str], wanted: str) -> None:
+    def assert_comes(self, subject: str, observe: Callable[[], str], expected: str) -> None:
         """`see` returns this text before the time is over or a program has ended."""
-        end = time.monotonic() + WITHIN
+        deadline = time.monotonic() + WITHIN
         is_last = False
-        while (seen := see()) != wanted and not is_last:
+        while (observation := observe()) != expected and not is_last:
             self.stick.collect(PAUSE)
-            is_last = time.monotonic() > end or any(program.has_ended() for program in self.programs.values())
-        self.assert_seen(what, seen, wanted)
+            is_last = time.monotonic() > deadline or any(program.has_ended() for program in self.programs.values())
+        self.assert_seen(subject, observation, expected)
 
     def assert_made(self, *paths: pathlib.Path) -> None:
         """These files are there before the time is over."""
-        def names(some: Iterable[pathlib.Path]) -> str:
-            return "".join(f"{path.name}\n" for path in some)
+        def names(file_paths: Iterable[pathlib.Path]) -> str:
+            return "".join(f"{path.name}\n" for path in file_paths)
 
         self.assert_comes("the files", lambda: names(path for path in paths if path.exists()), names(paths))
 
-    def assert_seen(self, what: str, seen: str, wanted: str) -> None:
+    def assert_seen(self, subject: str, observation: str, expected: str) -> None:
         """These are the same. If not, the message has the lines that are different, and how each program is."""
-        if seen != wanted:
-            pair = wanted.splitlines(), seen.splitlines()
-            lines = difflib.unified_diff(*pair, "wanted", "seen", n=1, lineterm="")
+        if observation != expected:
+            line_lists = expected.splitlines(), observation.splitlines()
+            lines = difflib.unified_diff(*line_lists, "wanted", "seen", n=1, lineterm="")
             endings = (f"{name} {program.status_and_output()}" for name, program in self.programs.items())
-            self.fail("\n".join([f"{what}, wanted and seen:", *lines, *endings]))
+            self.fail("\n".join([f"{subject}, wanted and seen:", *lines, *endings]))
 
-    def assert_end(self, status: int, printed: str = "") -> None:
+    def assert_end(self, status: int, expected_output: str = "") -> None:
         """The gateway ends with this status, and has printed this text only."""
         with contextlib.suppress(subprocess.TimeoutExpired):
             self.gateway.process.wait(WITHIN)
-        wanted = f"has ended with status {status}, and has printed {printed!r}"
-        self.assert_seen("the end of the gateway", self.gateway.status_and_output(), wanted)
+        expected_end = f"has ended with status {status}, and has printed {expected_output!r}"
+        self.assert_seen("the end of the gateway", self.gateway.status_and_output(), expected_end)
 
     def assert_no_other_output(self) -> None:
         """The gateway, which has ended, has written no other line, and sent no other byte, than what was expected."""

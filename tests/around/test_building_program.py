@@ -41,9 +41,9 @@ class Simulator(Program):
 
     def command(self, *words: str, text: str = "") -> tuple[int, str]:
         """The exit status of a command, and the answers."""
-        done = subprocess.run([sys.executable, "-B", COMMAND, self.folder, *words], input=text, text=True,
-                              stdout=subprocess.PIPE, stderr=subprocess.STDOUT, timeout=WITHIN)
-        return done.returncode, done.stdout
+        process = subprocess.run([sys.executable, "-B", COMMAND, self.folder, *words], input=text, text=True,
+                                 stdout=subprocess.PIPE, stderr=subprocess.STDOUT, timeout=WITHIN)
+        return process.returncode, process.stdout
 
 
 class SimulatorTest(unittest.TestCase):
@@ -123,10 +123,10 @@ class SimulatorTest(unittest.TestCase):
         os.close(ports.open_port(str(self.folder / "ground.stick")))
         process = subprocess.run(["pgrep", "-g", str(self.simulator.process.pid), "-f", "virtual-building --quiet"],
                                  capture_output=True, text=True)
-        used = [self.used_ticks(number) for number in process.stdout.split()]
+        ticks_used = [self.used_ticks(number) for number in process.stdout.split()]
         time.sleep(1)
-        self.assertEqual([self.used_ticks(number) for number in process.stdout.split()], used)
-        self.assertTrue(used)
+        self.assertEqual([self.used_ticks(number) for number in process.stdout.split()], ticks_used)
+        self.assertTrue(ticks_used)
 
     @staticmethod
     def used_ticks(process: str) -> list[str]:
@@ -140,17 +140,17 @@ class SimulatorTest(unittest.TestCase):
             self.skipTest("only root can become another user")
         self.folder.chmod(0o755)
         script = "import socket, sys; socket.socket(socket.AF_UNIX).connect(sys.argv[1])"
-        done = subprocess.run([sys.executable, "-c", script, path], user=NOBODY, group=NOBODY, extra_groups=[],
-                              capture_output=True, text=True)
-        self.assertIn("PermissionError", done.stderr)
+        process = subprocess.run([sys.executable, "-c", script, path], user=NOBODY, group=NOBODY, extra_groups=[],
+                                 capture_output=True, text=True)
+        self.assertIn("PermissionError", process.stderr)
 
     def test_what_is_no_line(self) -> None:
         """A part of a line is refused, and so is all that was sent with it. A silent program does not stop the rest."""
-        for data in (b"unplug ground", b"unplug ground\nunplug att", b"\n", b"x" * 5000):
+        for request in (b"unplug ground", b"unplug ground\nunplug att", b"\n", b"x" * 5000):
             with contextlib.closing(socket.socket(socket.AF_UNIX)) as client:
                 client.connect(str(self.folder / "control"))
-                client.sendall(data)
-                self.assertTrue(client.recv(4096).startswith(b"error: "), data)
+                client.sendall(request)
+                self.assertTrue(client.recv(4096).startswith(b"error: "), request)
         with contextlib.closing(socket.socket(socket.AF_UNIX)) as silent:
             silent.connect(str(self.folder / "control"))
             self.assertEqual(self.simulator.command("send", "01800A01"), (OK, "ok\n"))
@@ -172,8 +172,9 @@ class SimulatorTest(unittest.TestCase):
         for name in ("control", "ground.stick"):
             folder = pathlib.Path(self.enterContext(tempfile.TemporaryDirectory()))
             (folder / name).write_text("mine")
-            done = subprocess.run([sys.executable, "-B", COMMAND, folder], capture_output=True, text=True, timeout=20)
-            self.assertEqual((done.returncode, (folder / name).read_text()), (FAILED, "mine"), done.stderr)
+            process = subprocess.run([sys.executable, "-B", COMMAND, folder], capture_output=True, text=True,
+                                     timeout=20)
+            self.assertEqual((process.returncode, (folder / name).read_text()), (FAILED, "mine"), process.stderr)
 
     def test_wrong_command_lines_and_sheets(self) -> None:
         sheet = self.folder / "sheet.csv"
@@ -181,10 +182,11 @@ class SimulatorTest(unittest.TestCase):
         for words, status, text in ((["--stick", "a"], 2, "'a' is not NAME:"), (["--speed", "0"], 2, "--speed"),
                                     (["--stick", "../a:1,1,1"], 2, "NAME:"), (["--seed", "x"], 2, "--seed"),
                                     (["--sheet", str(sheet)], 1, "row 2: "), (["--sheet", "/none"], 1, "/none")):
-            done = subprocess.run([sys.executable, "-B", COMMAND, *words, self.folder / "other"], capture_output=True,
-                                  text=True, timeout=20)
-            self.assertEqual(done.returncode, status, words)
-            self.assertIn(text, done.stderr)
+            process = subprocess.run([sys.executable, "-B", COMMAND, *words, self.folder / "other"],
+                                     capture_output=True,
+                                     text=True, timeout=20)
+            self.assertEqual(process.returncode, status, words)
+            self.assertIn(text, process.stderr)
 
 
 class WholeBuilding(unittest.TestCase):
@@ -194,13 +196,13 @@ class WholeBuilding(unittest.TestCase):
     def setUpClass(cls) -> None:
         cls.folder = pathlib.Path(cls.enterClassContext(tempfile.TemporaryDirectory()))
         cls.building = cls.enterClassContext(Program(cls.folder / "journal"))
-        begin = time.monotonic()
+        start_time = time.monotonic()
         cls.building.run([ROOT / "scripts/building", PROGRAM], cls.folder / "out", BUILDING=str(cls.folder / "files"))
-        end = begin + WITHIN_A_MINUTE
+        deadline = start_time + WITHIN_A_MINUTE
         while not any("until you press Ctrl-C" in line for line in lines_of(cls.folder / "out")):
-            assert time.monotonic() < end, (lines_of(cls.folder / "out"), cls.building.journal())
+            assert time.monotonic() < deadline, (lines_of(cls.folder / "out"), cls.building.journal())
             time.sleep(0.1)
-        cls.seconds = time.monotonic() - begin
+        cls.seconds = time.monotonic() - start_time
 
     @classmethod
     def ctl(cls, name: str, *words: str) -> subprocess.CompletedProcess[str]:
@@ -220,18 +222,19 @@ class WholeBuilding(unittest.TestCase):
         self.assertEqual(len({re.search("0180[0-9A-F]{4}", row)[0] for row in rows}), 50)
         silent = wait_for(lambda: [row for name in ("ground", "attic")
                                    for row in self.ctl(name, "devices").stdout.splitlines()[1:] if "dBm" not in row],
-                          lambda found: not found)
+                          lambda observation: not observation)
         self.assertEqual(silent, [])
         self.assertLess(self.seconds, WITHIN_A_MINUTE)
 
     def test_an_actuator_obeys_its_gateway_only(self) -> None:
         """The other gateway learns it by its ID, so it gives the order, and gets no answer."""
-        switched = self.ctl("ground", "--wait", "5", "switch", "01800A2D", "1", "on")
-        self.assertEqual((switched.returncode, switched.stdout), (OK, "channel 1: Output 100 %\n"), switched)
+        switch_result = self.ctl("ground", "--wait", "5", "switch", "01800A2D", "1", "on")
+        self.assertEqual((switch_result.returncode, switch_result.stdout), (OK, "channel 1: Output 100 %\n"),
+                         switch_result)
         self.assertEqual(self.ctl("attic", "add", "01800A2D", "D2-01-12").stdout, "accepted\n")
         self.assertEqual(self.ctl("attic", "--wait", "2", "switch", "01800A2D", "1", "off").returncode, UNREPORTED)
-        asked = self.ctl("ground", "--wait", "5", "query", "01800A2D", "1")
-        self.assertEqual(asked.stdout, "channel 1: Output 100 %\n", asked)
+        query_result = self.ctl("ground", "--wait", "5", "query", "01800A2D", "1")
+        self.assertEqual(query_result.stdout, "channel 1: Output 100 %\n", query_result)
 
     def test_a_press_and_a_window(self) -> None:
         for words, text in ((("press", "01800A03", "B0"), '"id":"01800A03","readings":[{"name":"R1","word":"B0"}'),
@@ -249,18 +252,18 @@ class WholeBuilding(unittest.TestCase):
         def published() -> set[str]:
             return set(subprocess.run(words, capture_output=True, text=True).stdout.split())
 
-        self.assertEqual(len(wait_for(published, lambda found: len(found) >= 50)), 50)
+        self.assertEqual(len(wait_for(published, lambda observation: len(observation) >= 50)), 50)
 
     def test_what_it_prints(self) -> None:
         """Each command that it prints can be run."""
-        shown = [line for line in lines_of(self.folder / "out") if line.startswith("  ")]
-        for line in shown:
+        command_lines = [line for line in lines_of(self.folder / "out") if line.startswith("  ")]
+        for line in command_lines:
             words = re.sub(".*?(contrib/|tail|mosquitto_sub)", r"\1", line, count=1)
             self.assertTrue(shutil.which(words.split()[0], path=f"{ROOT}:{os.environ['PATH']}")
                             or (ROOT / words.split()[0]).exists(), line)
-        [order] = [line.split("an order")[1].strip() for line in shown if "an order" in line]
-        done = subprocess.run(["sh", "-c", order], cwd=ROOT, capture_output=True, text=True)
-        self.assertEqual((done.returncode, done.stdout), (OK, "ok\n"), done)
+        [order] = [line.split("an order")[1].strip() for line in command_lines if "an order" in line]
+        process = subprocess.run(["sh", "-c", order], cwd=ROOT, capture_output=True, text=True)
+        self.assertEqual((process.returncode, process.stdout), (OK, "ok\n"), process)
 
 
 class EndOfBuilding(unittest.TestCase):
@@ -281,8 +284,8 @@ class EndOfBuilding(unittest.TestCase):
         return int(pathlib.Path(f"/proc/{process}/task/{process}/children").read_text().split()[0])
 
     def test_without_a_program(self) -> None:
-        done = subprocess.run([ROOT / "scripts/building", "/none"], capture_output=True, text=True)
-        self.assertEqual((done.returncode, done.stderr),
+        process = subprocess.run([ROOT / "scripts/building", "/none"], capture_output=True, text=True)
+        self.assertEqual((process.returncode, process.stderr),
                          (1, "/none not found: run `make demo` or `make build` first\n"))
 
 

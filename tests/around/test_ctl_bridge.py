@@ -28,7 +28,7 @@ ROUNDS, MESSAGES = 3, 6
 PAUSE = 1.0
 SWITCH_PROFILE = "D2-01-12"
 # An order between its fences. Those of another program may be directly before them.
-FENCED_ORDER = re.compile(rb"^(?:status\n)+(?!status\n)[^\r\n]+\nstatus\r\n", re.MULTILINE)
+FENCED_ORDER_PATTERN = re.compile(rb"^(?:status\n)+(?!status\n)[^\r\n]+\nstatus\r\n", re.MULTILINE)
 # The types of the lines that end an answer.
 ANSWER_END_TYPES = ("ok", "teach", "error", "list", "status")
 SENSOR, NEVER_HEARD, REPLACEMENT = "01800A02", "01800A03", "01800A04"
@@ -48,8 +48,8 @@ class StateOfBridgeTest(GatewayTest):
     def ctl(self, *words: str) -> Run:
         """Runs a command for the gateway."""
         program = [sys.executable, "-B", "-c", COMMAND, self.work, "hall", *words]
-        done = subprocess.run(program, capture_output=True, text=True, timeout=60, env={"PYTHONPATH": str(CONTRIB)})
-        return Run(done.returncode, done.stdout, done.stderr)
+        process = subprocess.run(program, capture_output=True, text=True, timeout=60, env={"PYTHONPATH": str(CONTRIB)})
+        return Run(process.returncode, process.stdout, process.stderr)
 
 
 class OrdersOfTwoPrograms(StateOfBridgeTest):
@@ -58,51 +58,53 @@ class OrdersOfTwoPrograms(StateOfBridgeTest):
 
     def setUp(self):
         super().setUp()
-        self.wrong: list[tuple[str, Run]] = []
-        self.given: list[str] = []
+        self.wrong_runs: list[tuple[str, Run]] = []
+        self.given_orders: list[str] = []
 
     def give(self, order: str, status: int = OK, text: str | None = None) -> str:
         """Gives an order with enogatectl. It has this exit status and prints this text, or an error with it."""
-        self.given.append(order)
+        self.given_orders.append(order)
         run = self.ctl(*order.split(" "))
         printable_start = run.out if status == OK else run.err
         if run.status != status or (text and text not in printable_start) or (run.err if status == OK else run.out):
-            self.wrong.append((order, run))
+            self.wrong_runs.append((order, run))
         return run.out
 
-    def give_all(self, number: int) -> None:
+    def give_all(self, program_number: int) -> None:
         """What a program gives, in rounds. Its devices are its own."""
-        for turn in range(ROUNDS):
-            device = f"0190{number:02X}{turn:02X}"
+        for round_number in range(ROUNDS):
+            device = f"0190{program_number:02X}{round_number:02X}"
             self.give(f"add {device} {SWITCH_PROFILE}", OK, "accepted\n")
-            self.give(f"label {device} Lamp {number} {turn}", OK, "ok\n")
-            listed = {"eep": SWITCH_PROFILE, "id": device, "label": f"Lamp {number} {turn}", "maker": None,
-                      "type": "device"}
-            lines = self.give("list --json").splitlines()
-            if listed not in map(json.loads, lines) or f'"count":{len(lines) - 1},' not in lines[-1]:
-                self.wrong.append((f"list after {device}", Run(OK, "\n".join(lines), "")))
-            self.give(f"switch {device} {turn} on", OK, "ok\n")
+            self.give(f"label {device} Lamp {program_number} {round_number}", OK, "ok\n")
+            expected_line = {"eep": SWITCH_PROFILE, "id": device, "label": f"Lamp {program_number} {round_number}",
+                             "maker": None,
+                             "type": "device"}
+            device_lines = self.give("list --json").splitlines()
+            if expected_line not in map(json.loads,
+                                        device_lines) or f'"count":{len(device_lines) - 1},' not in device_lines[-1]:
+                self.wrong_runs.append((f"list after {device}", Run(OK, "\n".join(device_lines), "")))
+            self.give(f"switch {device} {round_number} on", OK, "ok\n")
             self.give(f"switch {device} 31 on", REFUSED, "range: ")
             self.give("status --json", OK, '"type":"status"')
-            self.give(f"label 0190FF{number:02X} x", REFUSED, "unknown_device: ")
-            if turn % 2:
+            self.give(f"label 0190FF{program_number:02X} x", REFUSED, "unknown_device: ")
+            if round_number % 2:
                 self.give(f"remove {device}", OK, "deleted\n")
 
     def publish(self) -> None:
         """Messages to the bridge while the programs give orders, and telegrams. Each message to the learn window makes
         the bridge ask for the status, and each label for the list."""
-        for turn in range(MESSAGES):
-            device = f"0190AA{turn:02X}"
-            orders = f"add {device} {SWITCH_PROFILE}", f"label {device} Message {turn}", "status", "status"
+        for message_number in range(MESSAGES):
+            device = f"0190AA{message_number:02X}"
+            orders = f"add {device} {SWITCH_PROFILE}", f"label {device} Message {message_number}", "status", "status"
             self.broker.publish(f"{TOPIC_ROOT}/orders", "\n".join(orders))
-            self.broker.publish(f"{TOPIC_ROOT}/{device}/OV/{turn}/set", "ON")
-            self.broker.publish(f"{TOPIC_ROOT}/learn/set", "OFF" if turn % 2 else "ON")
+            self.broker.publish(f"{TOPIC_ROOT}/{device}/OV/{message_number}/set", "ON")
+            self.broker.publish(f"{TOPIC_ROOT}/learn/set", "OFF" if message_number % 2 else "ON")
             self.stick.bring(SENSOR, "A5 00007F08", "A5 00007F08")
             time.sleep(PAUSE)
 
-    def at_once(self, *acts: Callable[[], None]) -> None:
+    def at_once(self, *actions: Callable[[], None]) -> None:
         """Does these at the same time."""
-        threads = [threading.Thread(target=act) for act in acts]
+        threads = [threading.Thread(target=action) for action in actions]
         for thread in threads:
             thread.start()
         for thread in threads:
@@ -113,7 +115,7 @@ class OrdersOfTwoPrograms(StateOfBridgeTest):
         self.at_once(lambda: self.give_all(1), lambda: self.give_all(2), self.publish)
         self.wait_until_handled()
         with self.subTest("each exit status and each answer is right"):
-            self.assert_seen(self.wrong, [])
+            self.assert_seen(self.wrong_runs, [])
         with self.subTest("the bridge has given orders of its own"):
             lists, statuses = self.bridge_orders()
             self.assertGreater(lists, 1)
@@ -122,7 +124,7 @@ class OrdersOfTwoPrograms(StateOfBridgeTest):
             self.assert_answered()
             packets = self.packets()
             self.assert_soon(lambda: [self.stick.sent().count(packet) for packet in packets], [1] * len(packets))
-            self.assert_soon(self.listed, self.wanted())
+            self.assert_soon(self.listed, self.expected_devices())
         with self.subTest("the state of the bridge is right"):
             self.assert_state()
         with self.subTest("the journal of the bridge"):
@@ -131,18 +133,19 @@ class OrdersOfTwoPrograms(StateOfBridgeTest):
     def packets(self) -> list[str]:
         """The packets of the orders `switch` that are not refused."""
         counts = {"01": ROUNDS, "02": ROUNDS, "AA": MESSAGES}
-        pairs = [(f"0190{number}{turn:02X}", turn) for number, count in counts.items() for turn in range(count)]
+        devices_and_turns = [(f"0190{number}{turn:02X}", turn) for number, count in counts.items()
+                             for turn in range(count)]
         return [
             gateway_telegram_packet(0xD2, bytes([1, channel, 100]), int(BASE, 16), int(device, 16)).hex()
-            for device, channel in pairs
+            for device, channel in devices_and_turns
         ]
 
-    def wanted(self) -> dict[str, str]:
+    def expected_devices(self) -> dict[str, str]:
         """The labels of the devices that are learned in the end."""
-        own = {f"0190{number:02X}{turn:02X}": f"Lamp {number} {turn}" for number in (1, 2)
-               for turn in range(0, ROUNDS, 2)}
-        return {SENSOR: "Attic", NEVER_HEARD: "", **own, **{f"0190AA{turn:02X}": f"Message {turn}"
-                                                            for turn in range(MESSAGES)}}
+        own_labels = {f"0190{number:02X}{turn:02X}": f"Lamp {number} {turn}" for number in (1, 2)
+                      for turn in range(0, ROUNDS, 2)}
+        return {SENSOR: "Attic", NEVER_HEARD: "", **own_labels, **{f"0190AA{turn:02X}": f"Message {turn}"
+                                                                   for turn in range(MESSAGES)}}
 
     def listed(self) -> dict[str, str]:
         """The labels of the devices that the gateway lists."""
@@ -152,11 +155,11 @@ class OrdersOfTwoPrograms(StateOfBridgeTest):
     def bridge_orders(self) -> tuple[int, int]:
         """How many orders `list` and `status` the bridge has given by itself. Each order of a program that is not
         `status` has fences before it, and one after it, which ends with CR."""
-        desk, given = self.gateway.desk.read_bytes(), [order.split(" ")[0] for order in self.given]
+        desk, given_verbs = self.gateway.desk.read_bytes(), [order.split(" ")[0] for order in self.given_orders]
         on_desk = desk.decode("ascii").split("\n")
-        fences = sum(needed_fences(desk[:found.start()]) for found in FENCED_ORDER.finditer(desk))
-        statuses = given.count("status") + fences + MESSAGES * 2
-        return on_desk.count("list") - given.count("list"), on_desk.count("status") - statuses
+        fences = sum(needed_fences(desk[:fenced_order.start()]) for fenced_order in FENCED_ORDER_PATTERN.finditer(desk))
+        statuses = given_verbs.count("status") + fences + MESSAGES * 2
+        return on_desk.count("list") - given_verbs.count("list"), on_desk.count("status") - statuses
 
     def assert_answered(self) -> None:
         """Each order on the desk has one answer."""
@@ -173,10 +176,10 @@ class OrdersOfTwoPrograms(StateOfBridgeTest):
     def assert_state(self) -> None:
         """The bridge has published each line, and has the devices with their labels. The learn window is closed, as the
         last message wanted. A bridge that begins without a state file makes the broker retain the same."""
-        self.assert_soon(self.state, self.wanted())
+        self.assert_soon(self.state, self.expected_devices())
         self.assert_soon(lambda: self.gateway.size() - self.bridge.saved_offset(), 0)
-        printed = self.gateway.lines()
-        self.assert_soon(lambda: self.published_lines()[-100:], printed[-100:])
+        lines_written = self.gateway.lines()
+        self.assert_soon(lambda: self.published_lines()[-100:], lines_written[-100:])
         retained = self.retained()
         topics = "status", "gateway", "module", "learn"
         self.assert_seen({topic: retained.get(f"{TOPIC_ROOT}/{topic}") for topic in topics},
@@ -184,7 +187,7 @@ class OrdersOfTwoPrograms(StateOfBridgeTest):
         self.bridge.end()
         for file in self.bridge.state.parent.iterdir():
             file.unlink()
-        self.heard.forget()
+        self.listener.forget()
         self.start_bridge()
         self.wait_until_handled()
         self.assert_seen(self.retained(), retained)
@@ -198,23 +201,25 @@ class ReplacedDevice(StateOfBridgeTest):
 
     def discovery_messages(self) -> list[list[str]]:
         """The topics and payloads that it has received."""
-        found = [message.partition(" ")[::2] for message in self.heard.messages()]
-        return [[topic, text] for topic, text in found if topic.startswith("homeassistant/")]
+        topics_and_texts = [message.partition(" ")[::2] for message in self.listener.messages()]
+        return [[topic, text] for topic, text in topics_and_texts if topic.startswith("homeassistant/")]
 
     def test_it_keeps_its_entities(self):
         topic = f"homeassistant/sensor/enogate_hall/{SENSOR}_TMP/config"
         self.assert_soon(lambda: topic in self.retained(), True)
-        before = [one for one in self.retained() if one.startswith("homeassistant/")]
-        self.heard.forget()
+        topics_before = [retained_topic
+                         for retained_topic in self.retained() if retained_topic.startswith("homeassistant/")]
+        self.listener.forget()
         self.assertEqual(self.ctl("replace", "Attic", REPLACEMENT).status, OK)
 
         def serial_number() -> str:
             return json.loads(self.retained()[topic])["device"]["serial_number"]
         self.assert_soon(serial_number, REPLACEMENT)
         self.wait_until_handled()
-        self.assertEqual([one for one in self.retained() if one.startswith("homeassistant/")], before)
-        for changed, text in self.discovery_messages():
-            self.assertIn(SENSOR, changed)
+        self.assertEqual([retained_topic for retained_topic in self.retained()
+                          if retained_topic.startswith("homeassistant/")], topics_before)
+        for changed_topic, text in self.discovery_messages():
+            self.assertIn(SENSOR, changed_topic)
             self.assertIn(f'"state_topic":"{TOPIC_ROOT}/{REPLACEMENT}/', text)
         self.bring(REPLACEMENT, "A5 00007F08")
         self.assert_soon(lambda: self.retained().get(f"{TOPIC_ROOT}/{REPLACEMENT}/TMP"), "20.0784")
@@ -225,8 +230,8 @@ class LastSeenTimes(StateOfBridgeTest):
 
     def last_seen_cell(self) -> str:
         """The row of the sensor, after its readings."""
-        found = re.search(rf"Attic +{SENSOR} .* dBm(.*)", self.ctl("list").out)
-        return found[1].strip() if found else "no row"
+        row_match = re.search(rf"Attic +{SENSOR} .* dBm(.*)", self.ctl("list").out)
+        return row_match[1].strip() if row_match else "no row"
 
     def test_they_are_shown_while_the_bridge_runs(self):
         self.assertNotIn("LAST SEEN", self.ctl("list").out)
@@ -234,14 +239,14 @@ class LastSeenTimes(StateOfBridgeTest):
         age = wait_for(self.last_seen_cell, lambda cell: cell.endswith(" ago"))
         self.assertRegex(age, "^[0-9]+ s ago$")
         self.assertLess(int(age.split(" ")[0]), 2 * WITHIN)
-        heading, seen, unseen = self.ctl("list").out.splitlines()
+        heading, row_with_time, row_without_time = self.ctl("list").out.splitlines()
         self.assertRegex(heading, "SIGNAL +LAST SEEN$")
-        self.assertRegex(seen, rf"^Attic +{SENSOR} .*Temperature 20.08 °C +-45 dBm +[0-9]+ s ago$")
-        self.assertRegex(unseen, f"{NEVER_HEARD} +A5-02-05 +Temperature sensor$")
-        self.assertEqual(self.ctl("devices").out.splitlines()[2], unseen)
-        first, second, _ = map(json.loads, self.ctl("devices", "--json").out.splitlines())
-        self.assertLess(abs(time.time() - first["seen"]), 3 * WITHIN)
-        self.assertEqual((first["id"], first["label"], second["id"], second["seen"]),
+        self.assertRegex(row_with_time, rf"^Attic +{SENSOR} .*Temperature 20.08 °C +-45 dBm +[0-9]+ s ago$")
+        self.assertRegex(row_without_time, f"{NEVER_HEARD} +A5-02-05 +Temperature sensor$")
+        self.assertEqual(self.ctl("devices").out.splitlines()[2], row_without_time)
+        first_device, second_device, _ = map(json.loads, self.ctl("devices", "--json").out.splitlines())
+        self.assertLess(abs(time.time() - first_device["seen"]), 3 * WITHIN)
+        self.assertEqual((first_device["id"], first_device["label"], second_device["id"], second_device["seen"]),
                          (SENSOR, "Attic", NEVER_HEARD, None))
         self.bridge.end()
         self.assertEqual(self.last_seen_cell(), "")

@@ -29,48 +29,48 @@ class HangingGateway(CtlTest):
     """A gateway that hangs for a while."""
 
     def test_in_time(self):
-        self.hang()
-        begin = time.monotonic()
+        self.stop_gateway()
+        start_time = time.monotonic()
         self.assert_run(self.ctl("--timeout", "1", "learn", "off"), SILENT, "", LATE_TEXT)
-        self.assertLess(time.monotonic() - begin, 5)
+        self.assertLess(time.monotonic() - start_time, 5)
 
     def test_a_late_answer_is_not_that_of_the_next_order(self):
         """The first order is answered with `ok`, and the second one is refused."""
-        for first in (("learn", "off"), ("add", "01900111", "F6-02-01")):
-            with self.subTest(first):
-                self.hang()
-                self.assert_run(self.ctl("--timeout", "1", *first), SILENT, "", LATE_TEXT)
+        for first_words in (("learn", "off"), ("add", "01900111", "F6-02-01")):
+            with self.subTest(first_words):
+                self.stop_gateway()
+                self.assert_run(self.ctl("--timeout", "1", *first_words), SILENT, "", LATE_TEXT)
                 self.assert_run(self.ctl("--timeout", "0.2", "list"), SILENT, "", WAITING_TEXT)
-                second = self.begin("label", "01900112", "x")
+                second_process = self.begin("label", "01900112", "x")
                 time.sleep(0.3)
-                self.go_on()
-                self.assert_ends(self.end(second), REFUSED, "unknown_device: ")
+                self.continue_gateway()
+                self.assert_ends(self.end(second_process), REFUSED, "unknown_device: ")
 
     def test_orders_of_another_program_that_are_not_answered_yet(self):
         """Between their fences they look like the order. The first one is answered with `ok`."""
         self.assertEqual(self.ctl("add", "01900114", "D2-01-12").status, OK)
         for fences in (2, 3):
             with self.subTest(fences):
-                self.hang()
+                self.stop_gateway()
                 self.gateway.order(*["status"] * fences, "switch 01900114 0 on", "status")
                 size = self.desk_size()
                 process = self.begin("label", "01900112", "x")
                 self.wait_for_order(size)
-                self.go_on()
+                self.continue_gateway()
                 self.assert_ends(self.end(process), REFUSED, "unknown_device: ")
 
     def test_an_interrupted_order_keeps_the_lock(self):
-        for number in (signal.SIGINT, signal.SIGTERM, signal.SIGHUP):
-            with self.subTest(number.name):
-                self.hang()
+        for signal_number in (signal.SIGINT, signal.SIGTERM, signal.SIGHUP):
+            with self.subTest(signal_number.name):
+                self.stop_gateway()
                 size = self.desk_size()
                 process = self.begin("learn", "on")
                 self.wait_for_order(size)
-                process.send_signal(number)
+                process.send_signal(signal_number)
                 # its pipes are closed, although the process that keeps the lock still runs
-                self.assert_run(self.end(process), 128 + number)
+                self.assert_run(self.end(process), 128 + signal_number)
                 self.assert_run(self.ctl("--timeout", "0.3", "label", "01900112", "x"), SILENT, "", WAITING_TEXT)
-                self.go_on()
+                self.continue_gateway()
                 self.assert_ends(self.ctl("label", "01900112", "x"), REFUSED, "unknown_device: ")
 
     def test_a_lock_that_another_program_holds(self):
@@ -82,12 +82,12 @@ class HangingGateway(CtlTest):
         self.assert_run(self.end(process), OK, "ok\n")
 
     def test_rotation_between_an_order_and_its_answer(self):
-        self.hang()
+        self.stop_gateway()
         size = self.desk_size()
         process = self.begin("add", "01900113", "F6-02-01")
         self.wait_for_order(size)
         self.gateway.rotate()
-        self.go_on()
+        self.continue_gateway()
         self.assert_run(self.end(process), OK, "accepted\n")
 
     def test_a_module_that_does_not_report_its_base_id(self):
@@ -143,17 +143,17 @@ class FullDesk(unittest.TestCase):
 
     def test_no_part_of_an_order_becomes_an_order(self):
         """17 bytes are left."""
-        for first in (self.bridge, self.command):
-            for second in (self.bridge, self.command):
-                with self.subTest(first=first, second=second):
+        for first_writer in (self.bridge, self.command):
+            for second_writer in (self.bridge, self.command):
+                with self.subTest(first=first_writer, second=second_writer):
                     self.desk.write_bytes(b"")
                     subprocess.run(["mount", "-o", "remount,size=8k", self.folder], check=True)
                     self.desk.write_bytes(b"x" * 8174 + b"\n")
-                    self.assertFalse(first(b"dim 01800ABC 0 100\n"))
+                    self.assertFalse(first_writer(b"dim 01800ABC 0 100\n"))
                     self.assertTrue(self.desk.read_bytes().endswith(b"\ndim 01800ABC 0 10"))
-                    self.assertFalse(second(b"list\n"))
+                    self.assertFalse(second_writer(b"list\n"))
                     subprocess.run(["mount", "-o", "remount,size=16k", self.folder], check=True)
-                    self.assertTrue(second(b"list\n"))
+                    self.assertTrue(second_writer(b"list\n"))
                     self.assertEqual(self.desk.read_bytes()[8175:], b"dim 01800ABC 0 10\x15\nlist\n")
 
 

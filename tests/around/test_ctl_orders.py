@@ -42,29 +42,31 @@ class EachOrder(CtlTest):
         ):
             with self.subTest(words):
                 run = self.ctl(*words.split(" "))
-                wanted = (text, "") if status == OK else ("", f"enogatectl: {text}")
-                self.assertEqual((run.status, run.out.rstrip("\n"), run.err.rstrip("\n")), (status, *wanted))
-        switched = gateway_telegram_packet(0xD2, bytes.fromhex("010064"), 0xFF800000, 0x01800ABC).hex()
-        self.assertIn(switched, wait_for(self.stick.sent, lambda seen: switched in seen))
+                expected_output = (text, "") if status == OK else ("", f"enogatectl: {text}")
+                self.assertEqual((run.status, run.out.rstrip("\n"), run.err.rstrip("\n")), (status, *expected_output))
+        switch_packet = gateway_telegram_packet(0xD2, bytes.fromhex("010064"), 0xFF800000, 0x01800ABC).hex()
+        self.assertIn(switch_packet, wait_for(self.stick.sent, lambda stick_bytes: switch_packet in stick_bytes))
         self.assert_run(self.ctl("remove", "01800ABC"), OK, "deleted\n")
         self.assert_run(self.ctl("remove", "01800ABD"), OK, "deleted\n")
 
     def test_a_device_is_replaced(self):
         """After each step at which the command may have been interrupted, and again when it was done."""
-        done = ("{} was replaced by 01800C02{}. If it is an actuator, teach it this gateway. Programs that use "
-                "the ID need the new one.\n")
-        steps = ["01800C02: learned\n", "01800C02: labelled\n", "01800C01: removed\n"]
+        done_form = ("{} was replaced by 01800C02{}. If it is an actuator, teach it this gateway. Programs that use "
+                     "the ID need the new one.\n")
+        step_lines = ["01800C02: learned\n", "01800C02: labelled\n", "01800C01: removed\n"]
         for count in range(3):
             for words in ("add 01800C01 D2-01-12", "label 01800C01 Lamp C", "add 01800C02 D2-01-12",
                           "label 01800C02 Lamp C")[:2 + count]:
                 self.assertEqual(self.ctl(*words.split(" ")).status, OK)
-            old = "Lamp C" if count else "01800C01"
-            self.assert_run(self.ctl("replace", old, "01800C02"), OK, "".join(steps[count:]) + done.format(old, ""))
-            for old in ("Lamp C", "01800C01"):
-                self.assert_run(self.ctl("--", "replace", old, "01800C02"), OK, done.format(old, " already"))
-            listed = self.ctl("devices", "--export").out
-            self.assertIn("\n01800C02,D2-01-12,Lamp C\n", listed)
-            self.assertNotIn("01800C01", listed)
+            old_device = "Lamp C" if count else "01800C01"
+            self.assert_run(self.ctl("replace", old_device, "01800C02"), OK,
+                            "".join(step_lines[count:]) + done_form.format(old_device, ""))
+            for old_device in ("Lamp C", "01800C01"):
+                self.assert_run(self.ctl("--", "replace", old_device, "01800C02"), OK,
+                                done_form.format(old_device, " already"))
+            exported_devices = self.ctl("devices", "--export").out
+            self.assertIn("\n01800C02,D2-01-12,Lamp C\n", exported_devices)
+            self.assertNotIn("01800C01", exported_devices)
             self.assert_run(self.ctl("remove", "01800C02"), OK, "deleted\n")
 
     def test_a_device_is_replaced_by_request(self):
@@ -84,7 +86,7 @@ class EachOrder(CtlTest):
     def test_a_device_that_cannot_be_replaced(self):
         for words in ("add 01800C03 D2-01-12", "add 01800C04 D5-00-01", "label 01800C04 Gate"):
             self.assertEqual(self.ctl(*words.split(" ")).status, OK)
-        before = self.ctl("devices", "--export").out
+        exported_before = self.ctl("devices", "--export").out
         for words, status, text in (
             ("01800C03 01800C04", USAGE, "01800C04 is learned already, with the profile D5-00-01 and the label 'Gate'"),
             ("01800C05 01800C04", USAGE, "01800C05 is not learned: check the ID with `list`\n"),
@@ -93,7 +95,7 @@ class EachOrder(CtlTest):
         ):
             run = self.ctl("replace", *words.split(" "))
             self.assertEqual((run.status, run.out, run.err.startswith(f"enogatectl: {text}")), (status, "", True), run)
-        self.assertEqual(self.ctl("devices", "--export").out, before)
+        self.assertEqual(self.ctl("devices", "--export").out, exported_before)
 
     def test_a_backup(self):
         """The devices in it can be imported."""
@@ -108,7 +110,7 @@ class EachOrder(CtlTest):
         self.assertEqual(self.ctl("devices", "--import", text=devices).status, OK)
 
     def test_bad_usage_is_not_written_to_the_desk(self):
-        before = self.gateway.desk.read_bytes()
+        desk_before = self.gateway.desk.read_bytes()
         for words in ((), ("frob",), ("add", "1800ABC D5-00-01"), ("switch", "01800ABC 0", "on"),
                       ("label", "01800ABC", "a\nremove 01800ABC"),
                       ("label", "01800ABC", "ö"), ("label", "01800ABC", "x" * 33), ("--no", "list"), ("list", " "),
@@ -120,7 +122,7 @@ class EachOrder(CtlTest):
                 run = self.ctl(*words)
                 self.assertEqual((run.status, run.out), (USAGE, ""))
                 self.assertRegex(run.err, r"\Aenogatectl: [^\n]+\n\Z")
-        self.assertEqual(self.gateway.desk.read_bytes(), before)
+        self.assertEqual(self.gateway.desk.read_bytes(), desk_before)
 
     def test_labels_in_place_of_ids(self):
         """A label that was moved counts at once, whoever moved it. One that looks like an order is only a label."""
@@ -128,17 +130,18 @@ class EachOrder(CtlTest):
         for order in ("add 01900301 D2-01-12", "add 01900302 D2-01-12", "label 01900301 Lamp",
                       f"label 01900302 {hostile}"):
             self.assertEqual(self.ctl(*order.split(" ")).status, OK)
-        before = self.gateway.desk.read_bytes()
+        desk_before = self.gateway.desk.read_bytes()
         for label, device in (("Lamp", "01900301"), (hostile, "01900302")):
             self.assert_run(self.ctl("switch", label, "7", "on"), OK, "ok\n")
             packet = gateway_telegram_packet(0xD2, bytes.fromhex("010764"), 0xFF800000, int(device, 16)).hex()
-            self.assertIn(packet, wait_for(self.stick.sent, lambda seen: packet in seen))
-        given = self.gateway.desk.read_bytes().removeprefix(before).replace(b"\r", b"").replace(b"status\n", b"")
-        self.assertEqual(given, b"list\nswitch 01900301 7 on\nswitch 01900302 7 on\n")
+            self.assertIn(packet, wait_for(self.stick.sent, lambda stick_bytes: packet in stick_bytes))
+        given_orders = self.gateway.desk.read_bytes().removeprefix(desk_before).replace(b"\r", b"").replace(b"status\n",
+                                                                                                            b"")
+        self.assertEqual(given_orders, b"list\nswitch 01900301 7 on\nswitch 01900302 7 on\n")
         self.gateway.order("label 01900301 Other", "label 01900302 Lamp")
         self.assert_run(self.ctl("switch", "Lamp", "8", "on"), OK, "ok\n")
         packet = gateway_telegram_packet(0xD2, bytes.fromhex("010864"), 0xFF800000, 0x01900302).hex()
-        self.assertIn(packet, wait_for(self.stick.sent, lambda seen: packet in seen))
+        self.assertIn(packet, wait_for(self.stick.sent, lambda stick_bytes: packet in stick_bytes))
         self.assert_run(self.ctl("label", "Other", "Lamp"), OK, "ok\n")
         self.assert_run(self.ctl("switch", "Lamp", "9", "on"), USAGE, "", "several devices have the label 'Lamp': give "
                         "the ID, 01900301 or 01900302")
@@ -146,11 +149,12 @@ class EachOrder(CtlTest):
             self.assert_run(self.ctl("remove", device), OK, "deleted\n")
 
     def test_one_write_between_status_orders(self):
-        before = self.gateway.desk.read_bytes()
+        desk_before = self.gateway.desk.read_bytes()
         self.ctl("central", "3", "on")
-        self.assertEqual(self.gateway.desk.read_bytes(), before + b"status\nstatus\ncentral 3 on\nstatus\r\n")
+        self.assertEqual(self.gateway.desk.read_bytes(), desk_before + b"status\nstatus\ncentral 3 on\nstatus\r\n")
         self.ctl("status")
-        self.assertEqual(self.gateway.desk.read_bytes(), before + b"status\nstatus\ncentral 3 on\nstatus\r\nstatus\n")
+        self.assertEqual(self.gateway.desk.read_bytes(),
+                         desk_before + b"status\nstatus\ncentral 3 on\nstatus\r\nstatus\n")
 
     def test_json_is_the_lines_themselves(self):
         accepted = '{"eep":"D5-00-01","id":"01900001","maker":null,"result":"accepted","type":"teach"}\n'
@@ -190,9 +194,9 @@ Door   01800A01  D5-00-01  Contact                       Contact closed        -
         without_labels = "".join(row[len("LABEL  "):] for row in table.splitlines(True))
         self.assert_run(self.ctl("devices"), OK, without_labels)
         self.assert_run(self.ctl("list"), OK, table)
-        before = self.gateway.desk.read_bytes()
+        desk_before = self.gateway.desk.read_bytes()
         self.assert_run(self.ctl("devices"), OK, table)
-        self.assertEqual(self.gateway.desk.read_bytes(), before)
+        self.assertEqual(self.gateway.desk.read_bytes(), desk_before)
         self.gateway.rotate()
         self.assertIn("Temperature 20.08 °C", self.ctl("list").out)
         self.assert_run(self.ctl("status"), OK, """\
@@ -226,46 +230,48 @@ class SeveralPrograms(CtlTest):
             self.gateway.order("learn on", "status", "label 01900777 x", "list")
             time.sleep(0.15)
 
-    def give(self, number: int) -> None:
+    def give(self, program_number: int) -> None:
         """A program gives orders with enogatectl."""
-        device = f"019001{number:02X}"
+        device = f"019001{program_number:02X}"
         for words, status in ((f"add {device} F6-02-01", OK), (f"remove {device}", OK), (f"remove {device}", REFUSED),
                               (f"label {device} x", REFUSED), ("add 01900300 D5-00-01", OK), ("central 0 on", OK)):
             run = self.ctl(*words.split(" "))
             if run.status != status:
-                self.wrong.append((words, run))
+                self.wrong_runs.append((words, run))
 
-    def run_at_once(self, *acts) -> None:
+    def run_at_once(self, *actions) -> None:
         """Runs these at the same time, while devices send and another program gives orders."""
-        self.is_over, self.wrong = threading.Event(), []
-        others = [threading.Thread(target=act) for act in (self.flood, self.write)]
-        threads = [threading.Thread(target=act, args=(number,)) for number, act in enumerate(acts)]
-        for thread in others + threads:
+        self.is_over, self.wrong_runs = threading.Event(), []
+        other_threads = [threading.Thread(target=action) for action in (self.flood, self.write)]
+        threads = [threading.Thread(target=action, args=(program_number,))
+                   for program_number, action in enumerate(actions)]
+        for thread in other_threads + threads:
             thread.start()
         for thread in threads:
             thread.join()
         self.is_over.set()
-        for thread in others:
+        for thread in other_threads:
             thread.join()
 
     def test_three_at_once(self):
         """Other writers and radio lines give neither a wrong answer nor a missing one."""
         self.run_at_once(*[self.give] * 3)
-        self.assertEqual(self.wrong, [])
+        self.assertEqual(self.wrong_runs, [])
 
-    def bring_in(self, number: int) -> None:
+    def bring_in(self, program_number: int) -> None:
         """A program imports devices."""
-        devices = [f"01A{number:02X}{row:03X}" for row in range(20)]
+        devices = [f"01A{program_number:02X}{row:03X}" for row in range(20)]
         text = "".join(f"{device},F6-02-01,Lamp {device}\n" for device in devices)
         run = self.ctl("devices", "--import", text=text)
-        wanted = [f"row {row}: {device}: learned and labelled" for row, device in enumerate(devices, 1)]
-        if (run.status, run.out.splitlines()) != (OK, wanted) or text not in self.ctl("devices", "--export").out:
-            self.wrong.append((text, run))
+        expected_lines = [f"row {row}: {device}: learned and labelled" for row, device in enumerate(devices, 1)]
+        if (run.status, run.out.splitlines()) != (OK, expected_lines) or text not in self.ctl("devices",
+                                                                                              "--export").out:
+            self.wrong_runs.append((text, run))
 
     def test_two_imports_at_once(self):
         """Each gives several orders at once."""
         self.run_at_once(*[self.bring_in] * 2)
-        self.assertEqual(self.wrong, [])
+        self.assertEqual(self.wrong_runs, [])
 
 
 class DeviceSheets(CtlTest):

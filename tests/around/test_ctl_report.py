@@ -46,19 +46,22 @@ class ActuatorReports(CtlTest):
         def packet(device: str, payload: str) -> str:
             return gateway_telegram_packet(0xD2, bytes.fromhex(payload), int(BASE, 16), int(device, 16)).hex()
 
-        acts = {packet(LAMP, f"01{channel:02X}{value:02X}"): [(0.2, LAMP, f"04{0x60 | channel:02X}{0x80 | value:02X}")]
-                for channel in (0, 1) for value in (0, 40, 100)}
-        acts[packet(LAMP, "011E64")] = [(0.1, LAMP, "0461E4"), (0.2, LAMP, "0460E4")]
-        acts[packet(LAMP, "0301")] = [(0.1, LAMP, "0760000004D2"), (0.2, LAMP, "0460E4"), (0.3, LAMP, "0461A8")]
-        acts[packet(LAMP, "0681")] = [(0.1, LAMP, "0461E4"), (0.2, LAMP, "0761000004D2")]
-        acts[packet(BLIND, "467F0001")] = [(0.3, LAMP, "0460E4"), (BLIND_SECONDS, BLIND, "467F0004")]
-        acts[packet(BLIND, "02")] = [(0.1, BLIND, "217F0004")]
-        done = 0
+        replies_by_packet = {packet(LAMP,
+                                    f"01{channel:02X}{value:02X}"): [(0.2, LAMP,
+                                                                      f"04{0x60 | channel:02X}{0x80 | value:02X}")]
+                             for channel in (0, 1) for value in (0, 40, 100)}
+        replies_by_packet[packet(LAMP, "011E64")] = [(0.1, LAMP, "0461E4"), (0.2, LAMP, "0460E4")]
+        replies_by_packet[packet(LAMP, "0301")] = [(0.1, LAMP, "0760000004D2"), (0.2, LAMP, "0460E4"),
+                                                   (0.3, LAMP, "0461A8")]
+        replies_by_packet[packet(LAMP, "0681")] = [(0.1, LAMP, "0461E4"), (0.2, LAMP, "0761000004D2")]
+        replies_by_packet[packet(BLIND, "467F0001")] = [(0.3, LAMP, "0460E4"), (BLIND_SECONDS, BLIND, "467F0004")]
+        replies_by_packet[packet(BLIND, "02")] = [(0.1, BLIND, "217F0004")]
+        handled_size = 0
         while not cls.is_over.is_set():
-            seen = cls.stick.sent()
-            for found, replies in acts.items():
-                if (place := seen.find(found, done)) >= 0:
-                    done = place + len(found)
+            sent_digits = cls.stick.sent()
+            for packet_digits, replies in replies_by_packet.items():
+                if (packet_place := sent_digits.find(packet_digits, handled_size)) >= 0:
+                    handled_size = packet_place + len(packet_digits)
                     for pause, device, payload in replies:
                         threading.Timer(pause, cls.stick.bring, [device, f"D2 {payload}"]).start()
             time.sleep(0.02)
@@ -74,8 +77,8 @@ class ActuatorReports(CtlTest):
         os.close(slave)
         out = b""
         try:
-            while part := os.read(master, 4096):
-                out += part
+            while chunk := os.read(master, 4096):
+                out += chunk
         except OSError:
             # Everything was read.
             pass
@@ -97,29 +100,29 @@ class ActuatorReports(CtlTest):
         self.assert_run(self.ctl("--wait", "5", *f"dim {LAMP} 0 40".split(" ")), OK, "channel 0: Output 40 %\n")
 
     def test_an_actuator_that_has_not_learned_the_gateway(self):
-        why = f"sent, but {UNPAIRED} reported nothing within {{}} s: has it learned this gateway?"
-        begin = time.monotonic()
-        self.assert_run(self.at_terminal("switch", UNPAIRED, "0", "on"), UNREPORTED_STATUS, "", why.format(3))
-        self.assertGreater(time.monotonic() - begin, 3)
-        self.assert_run(self.ctl("--wait", "0.5", "query", UNPAIRED, "0"), UNREPORTED_STATUS, "", why.format("0.5"))
+        warning = f"sent, but {UNPAIRED} reported nothing within {{}} s: has it learned this gateway?"
+        start_time = time.monotonic()
+        self.assert_run(self.at_terminal("switch", UNPAIRED, "0", "on"), UNREPORTED_STATUS, "", warning.format(3))
+        self.assertGreater(time.monotonic() - start_time, 3)
+        self.assert_run(self.ctl("--wait", "0.5", "query", UNPAIRED, "0"), UNREPORTED_STATUS, "", warning.format("0.5"))
         self.assert_run(self.at_terminal("--no-wait", "switch", UNPAIRED, "0", "on"), OK, "ok\n")
 
     def test_a_blind_reports_at_the_end_of_its_way(self):
         run = self.at_terminal("blind", BLIND, "70")
-        note = f"enogatectl: sent; waiting up to 120 s until {BLIND} reports (Ctrl-C ends the wait)\n"
-        self.assertEqual(run, Run(OK, "Position 70 %, Angle unknown\n", note))
+        note_text = f"enogatectl: sent; waiting up to 120 s until {BLIND} reports (Ctrl-C ends the wait)\n"
+        self.assertEqual(run, Run(OK, "Position 70 %, Angle unknown\n", note_text))
 
     def test_a_table_has_the_width_of_the_terminal(self):
         """All columns are there: the narrowest table has 54 characters."""
         self.assertEqual(self.ctl("--wait", "10", "query", LAMP, "1").status, OK)
-        whole = self.ctl("list").out
-        self.assertIn(f"Lamp   {LAMP}  D2-01-12  Electronic switch, 2 channels", whole)
+        full_table = self.ctl("list").out
+        self.assertIn(f"Lamp   {LAMP}  D2-01-12  Electronic switch, 2 channels", full_table)
         for command in ("list", "devices"):
-            self.assertEqual(self.at_terminal(command, columns=200).out, whole)
-            cut = self.at_terminal(command, columns=60).out
-            self.assertEqual(max(map(len, cut.splitlines())), 60)
-            self.assertIn(f"Lamp   {LAMP}  D2-01-12  Electron", cut)
-            self.assertNotIn("Electronic switch, 2 channels", cut)
+            self.assertEqual(self.at_terminal(command, columns=200).out, full_table)
+            cut_table = self.at_terminal(command, columns=60).out
+            self.assertEqual(max(map(len, cut_table.splitlines())), 60)
+            self.assertIn(f"Lamp   {LAMP}  D2-01-12  Electron", cut_table)
+            self.assertNotIn("Electronic switch, 2 channels", cut_table)
 
     def test_without_a_terminal_nothing_is_waited_for(self):
         for order in (f"switch {LAMP} 0 on", f"blind {BLIND} 70", f"query {UNPAIRED} 0", f"stop {BLIND}"):
@@ -143,9 +146,10 @@ class WatchCommand(CtlTest):
 
     def line(self, process: subprocess.Popen[str]) -> str:
         """The next line without its time, which is that of this computer."""
-        before = time.time()
+        start_time = time.time()
         line = process.stdout.readline()
-        self.assertIn(line[:8], [time.strftime("%H:%M:%S", time.localtime(before + more)) for more in range(-2, 30)])
+        self.assertIn(line[:8], [time.strftime("%H:%M:%S", time.localtime(start_time + seconds_later))
+                                 for seconds_later in range(-2, 30)])
         return line[8:]
 
     def test_readings_as_they_come(self):
@@ -172,7 +176,7 @@ class WatchCommand(CtlTest):
 
     def test_it_gives_no_order(self):
         """And runs while the gateway does not."""
-        before = self.desk_size()
+        desk_size = self.desk_size()
         process = self.begin("watch")
 
         def opened() -> list[str]:
@@ -181,7 +185,7 @@ class WatchCommand(CtlTest):
             with contextlib.suppress(OSError):
                 return [os.readlink(f"{folder}/{name}") for name in os.listdir(folder)]
             return []
-        wait_for(opened, lambda found: str(self.gateway.lines_path) in found)
+        wait_for(opened, lambda open_paths: str(self.gateway.lines_path) in open_paths)
         process.send_signal(signal.SIGTERM)
         self.assert_run(self.end(process), 128 + signal.SIGTERM)
-        self.assertEqual(self.desk_size(), before)
+        self.assertEqual(self.desk_size(), desk_size)

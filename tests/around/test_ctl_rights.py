@@ -38,28 +38,28 @@ PROGRAM = '#!/bin/sh\n: >"$DATABASE"\n: >"$DATABASE-wal"\necho \'{"type":"ok"}\'
 
 def setting(unit: str, name: str) -> str:
     """A setting of a unit."""
-    found = re.search(rf"^{name}=(.*)$", (CONTRIB / f"{unit}@.service").read_text(), re.MULTILINE)
-    assert found, (unit, name)
-    return found[1]
+    setting_match = re.search(rf"^{name}=(.*)$", (CONTRIB / f"{unit}@.service").read_text(), re.MULTILINE)
+    assert setting_match, (unit, name)
+    return setting_match[1]
 
 
 def as_user(user: int, see: Callable[[], Any]) -> str:
     """What `see` returns, as a text, if this user calls it; the name of the error if it fails."""
-    read, write = os.pipe()
+    read_end, write_end = os.pipe()
     child = os.fork()
     if not child:
         try:
             os.setgroups(GROUPS[user])
             os.setresgid(*GROUPS[user][:1] * 3)
             os.setresuid(user, user, user)
-            os.write(write, str(see()).encode())
+            os.write(write_end, str(see()).encode())
         except BaseException as error:
-            os.write(write, type(error).__name__.encode())
+            os.write(write_end, type(error).__name__.encode())
         finally:
             os._exit(0)
-    os.close(write)
+    os.close(write_end)
     os.waitpid(child, 0)
-    with os.fdopen(read, "rb") as file:
+    with os.fdopen(read_end, "rb") as file:
         return file.read().decode()
 
 
@@ -115,8 +115,9 @@ class RightsTest(unittest.TestCase):
 
     def make_registry(self, path: pathlib.Path) -> None:
         """Makes a database of the service."""
-        with contextlib.closing(sqlite3.connect(path)) as made:
-            made.executescript("CREATE TABLE enogate_meta AS SELECT 2 AS version; CREATE TABLE enogate_device_v2 (id)")
+        with contextlib.closing(sqlite3.connect(path)) as connection:
+            connection.executescript("CREATE TABLE enogate_meta AS SELECT 2 AS version; CREATE TABLE enogate_device_v2 "
+                                     "(id)")
         os.chown(path, SERVICE, SERVICE)
 
     def mode(self, path: pathlib.Path) -> str:
@@ -138,28 +139,29 @@ class GroupMember(RightsTest):
 
     def test_only_the_desk_may_be_written(self):
         self.start()
-        wanted = {"desk": "0660", "hall.base": "0640", "hall.lines": "0640", "hall.db": "0640", "hall.db-wal": "0640"}
-        self.assertEqual(self.modes(), wanted)
+        expected_modes = {"desk": "0660", "hall.base": "0640", "hall.lines": "0640", "hall.db": "0640",
+                          "hall.db-wal": "0640"}
+        self.assertEqual(self.modes(), expected_modes)
         self.assertEqual([self.mode(self.state.with_name(name)) for name in ("hall.db", "another")], ["0640"] * 2)
         self.start()
-        self.assertEqual(self.modes(), wanted)
+        self.assertEqual(self.modes(), expected_modes)
 
     def test_a_gateway_that_has_only_a_database_or_a_desk_is_hidden_from_others(self):
         self.database.with_name("cellar.db").touch()
         (self.work / "var").mkdir()
         (self.work / "var/lib").symlink_to(self.work / "lib")
         self.desk.touch()
-        for user, wanted in ((MEMBER, ["cellar", "hall"]), (OTHER, []), (SUPERUSER, ["cellar", "hall"])):
-            self.assertEqual(as_user(user, lambda: gateway_names(str(self.work))), str(wanted))
+        for user, expected_names in ((MEMBER, ["cellar", "hall"]), (OTHER, []), (SUPERUSER, ["cellar", "hall"])):
+            self.assertEqual(as_user(user, lambda: gateway_names(str(self.work))), str(expected_names))
 
     def test_forged_and_emptied_lines(self):
         self.start()
-        before = self.lines.read_bytes()
+        lines_before = self.lines.read_bytes()
         for mode in ("a", "w", "r+"):
             self.assertEqual(as_user(MEMBER, lambda: self.lines.open(mode)), "PermissionError")
-        self.assertEqual(as_user(MEMBER, self.lines.read_bytes), str(before))
+        self.assertEqual(as_user(MEMBER, self.lines.read_bytes), str(lines_before))
         self.assertEqual(as_user(MEMBER, self.give_order), "5")
-        self.assertEqual((self.desk.read_text(), self.lines.read_bytes()), ("list\n", before))
+        self.assertEqual((self.desk.read_text(), self.lines.read_bytes()), ("list\n", lines_before))
 
     def give_order(self) -> int:
         with self.desk.open("a") as desk:
@@ -185,13 +187,13 @@ class GroupMember(RightsTest):
         """Such as a file of root, or a pipe, for which it would wait. Otherwise it keeps the file: the bridge reads
         it."""
         self.start()
-        with self.desk.open() as before:
+        with self.desk.open() as old_desk_file:
             self.start()
-            self.assertTrue(os.path.samestat(os.fstat(before.fileno()), self.desk.stat()))
-        other = self.work / "other"
-        other.write_text("kept\n")
-        os.chown(other, SERVICE, SERVICE)
-        for make in (self.desk.touch, self.make_pipe, lambda: self.desk.symlink_to(other),
+            self.assertTrue(os.path.samestat(os.fstat(old_desk_file.fileno()), self.desk.stat()))
+        other_path = self.work / "other"
+        other_path.write_text("kept\n")
+        os.chown(other_path, SERVICE, SERVICE)
+        for make in (self.desk.touch, self.make_pipe, lambda: self.desk.symlink_to(other_path),
                      lambda: self.desk.symlink_to("/none")):
             self.desk.unlink()
             make()
@@ -199,7 +201,7 @@ class GroupMember(RightsTest):
             status = self.desk.lstat()
             self.assertEqual((stat.S_ISREG(status.st_mode), status.st_uid), (True, SERVICE))
             self.assertEqual(self.mode(self.desk), "0660")
-        self.assertEqual(other.read_text(), "kept\n")
+        self.assertEqual(other_path.read_text(), "kept\n")
 
     def make_pipe(self) -> None:
         """Makes a pipe of the service."""
@@ -244,11 +246,11 @@ class RightsTable(RightsTest):
             folder.mkdir(parents=True)
         backups.chmod(int(mode[1], 8))
         os.chown(backups, SERVICE, SERVICE)
-        made = self.work / "made/hall.db"
-        made.parent.mkdir()
-        os.chown(made.parent, SERVICE, SERVICE)
-        self.make_registry(made)
-        words = [CONTRIB / "enogate-backup", made, backups / "hall.db"]
+        made_database = self.work / "made/hall.db"
+        made_database.parent.mkdir()
+        os.chown(made_database.parent, SERVICE, SERVICE)
+        self.make_registry(made_database)
+        words = [CONTRIB / "enogate-backup", made_database, backups / "hall.db"]
         run = subprocess.run(words, capture_output=True, text=True, cwd="/")
         self.assertEqual((run.returncode, run.stderr), (0, ""))
         day = datetime.datetime(2026, 12, 1).timestamp()
@@ -275,12 +277,12 @@ class RightsTable(RightsTest):
             path.with_name("renamed").rename(path)
         tries = {"read": lambda: path.open("rb").close(), "write": lambda: path.open("r+b").close(),
                  "rename": rename}
-        found = []
-        for name, act in tries.items():
+        rights_found = []
+        for name, attempt in tries.items():
             with contextlib.suppress(PermissionError):
-                act()
-                found.append(name)
-        return ", ".join(found) or "nothing"
+                attempt()
+                rights_found.append(name)
+        return ", ".join(rights_found) or "nothing"
 
     def test_each_cell(self):
         table = self.table()
@@ -294,10 +296,11 @@ class RightsTable(RightsTest):
 
     def test_each_file_is_in_the_table(self):
         """Each one that the unit makes."""
-        listed = {name.removeprefix("/var") for name, *_ in self.table()}
+        listed_files = {name.removeprefix("/var") for name, *_ in self.table()}
         for folder in ("run", "log", "lib"):
-            made = {f"/{path.relative_to(self.work)}" for path in (self.work / folder).rglob("*") if path.is_file()}
-            self.assertEqual(made - listed - {"/lib/enogate-mqtt/another"}, set())
+            existing_files = {f"/{path.relative_to(self.work)}"
+                              for path in (self.work / folder).rglob("*") if path.is_file()}
+            self.assertEqual(existing_files - listed_files - {"/lib/enogate-mqtt/another"}, set())
 
 
 class RootTools(RightsTest):
@@ -337,24 +340,24 @@ class RootTools(RightsTest):
     def check(self) -> list[str]:
         """The faults that enogate-check finds at the files."""
         system = System(str(self.work), run=lambda _: "", user=lambda: (SERVICE, {SERVICE}))
-        found = Check("hall", system, sleep=lambda _: None).findings()
-        return [text.replace(str(self.work), "") for kind, text in found if kind == "fault" and "hall." in text]
+        findings = Check("hall", system, sleep=lambda _: None).findings()
+        return [text.replace(str(self.work), "") for kind, text in findings if kind == "fault" and "hall." in text]
 
     def obstacles(self, path: pathlib.Path) -> Iterator[str]:
         """Puts one thing after the other in place of a file, and yields what it is."""
-        kept = path.with_name("kept")
-        path.rename(kept)
+        kept_path = path.with_name("kept")
+        path.rename(kept_path)
         makers: dict[str, Callable[[], None]] = {
             "link": lambda: path.symlink_to(self.secret), "lost link": lambda: path.symlink_to("/none"),
             "link to a device": lambda: path.symlink_to("/dev/zero"), "pipe": lambda: os.mkfifo(path),
             "device": lambda: os.mknod(path, stat.S_IFCHR | 0o666, os.makedev(1, 5)),
             "hard link": lambda: path.hardlink_to(self.secret), "file of root": path.touch}
-        for what, make in makers.items():
+        for obstacle, make in makers.items():
             make()
-            yield what
+            yield obstacle
             path.unlink(missing_ok=True)
             self.assertEqual(self.secret.read_bytes(), self.SECRET)
-        kept.rename(path)
+        kept_path.rename(path)
 
     @contextlib.contextmanager
     def gateway(self) -> Iterator[None]:
@@ -384,8 +387,8 @@ class RootTools(RightsTest):
             wait_for(self.desk.read_text, bool)
             status = pathlib.Path(f"/proc/{process.pid}/status").read_text()
             process.kill()
-        found = re.findall(r"^(?:Uid|Gid):\s*(.*)$", status, re.MULTILINE)
-        self.assertEqual(found, ["\t".join([str(SERVICE)] * 4)] * 2)
+        ids_found = re.findall(r"^(?:Uid|Gid):\s*(.*)$", status, re.MULTILINE)
+        self.assertEqual(ids_found, ["\t".join([str(SERVICE)] * 4)] * 2)
         self.assertEqual(re.findall(r"^Groups:\s*(\S*) *$", status, re.MULTILINE), [str(SERVICE)])
 
     def test_a_gateway_by_hand(self):
@@ -409,23 +412,23 @@ class RootTools(RightsTest):
         self.assertTrue(wait_for(is_free, bool))
 
     def test_the_desk(self):
-        why = {"pipe": "is not a file: ", "device": "is not a file: ",
-               "file of root": "is not used, because it does not belong to the owner of its directory: ",
-               "hard link": "is not used, because it has a second name (a hard link): "}
-        for what in self.obstacles(self.desk):
-            with self.subTest(what):
+        reason_by_obstacle = {"pipe": "is not a file: ", "device": "is not a file: ",
+                              "file of root": "is not used, because it does not belong to the owner of its directory: ",
+                              "hard link": "is not used, because it has a second name (a hard link): "}
+        for obstacle in self.obstacles(self.desk):
+            with self.subTest(obstacle):
                 status, text = self.ctl("list")
                 self.assertEqual(status, 3)
                 self.assertIn("enogatectl: the desk /run/enogate/hall/desk "
-                              + why.get(what, "is not used, because it is a symbolic link: "), text)
+                              + reason_by_obstacle.get(obstacle, "is not used, because it is a symbolic link: "), text)
                 self.assertEqual(text.count("\n"), 1)
 
     def test_the_lines(self):
-        for what in self.obstacles(self.lines):
-            with self.subTest(what):
+        for obstacle in self.obstacles(self.lines):
+            with self.subTest(obstacle):
                 for order, status in (("list", 3), ("devices", 1), ("lines", 1)):
-                    found, text = self.ctl(order)
-                    self.assertEqual((found, text.count("\n")), (status, 1), text)
+                    exit_status, text = self.ctl(order)
+                    self.assertEqual((exit_status, text.count("\n")), (status, 1), text)
                     self.assertIn("enogatectl: the lines /log/enogate/hall.lines cannot be read: it ", text)
                 self.assertEqual(len(self.check()), 1)
                 self.assertIn("/var/log/enogate/hall.lines", self.check()[0])
@@ -433,18 +436,18 @@ class RootTools(RightsTest):
 
     def test_the_database(self):
         self.make_registry(self.database)
-        new = self.database.with_name("copy.db")
-        words = (self.tools / "enogate-backup", self.database, new)
+        copy_path = self.database.with_name("copy.db")
+        words = (self.tools / "enogate-backup", self.database, copy_path)
         for name in ("hall.db", "hall.db-wal"):
-            for what in self.obstacles(self.database.with_name(name)):
-                with self.subTest(name, what=what):
+            for obstacle in self.obstacles(self.database.with_name(name)):
+                with self.subTest(name, what=obstacle):
                     self.assertEqual(len(self.check()), 1)
                     self.assertIn(f"/var/lib/enogate/{name}", self.check()[0])
                     # an empty log of root is none that the service could use: it may only delete it
-                    if (name, what) != ("hall.db-wal", "file of root"):
-                        self.assertEqual((self.run_as(SUPERUSER, *words)[0], new.exists()), (1, False))
-                    new.unlink(missing_ok=True)
-        self.assertEqual((self.check(), self.run_as(SUPERUSER, *words), new.exists()), ([], (0, ""), True))
+                    if (name, obstacle) != ("hall.db-wal", "file of root"):
+                        self.assertEqual((self.run_as(SUPERUSER, *words)[0], copy_path.exists()), (1, False))
+                    copy_path.unlink(missing_ok=True)
+        self.assertEqual((self.check(), self.run_as(SUPERUSER, *words), copy_path.exists()), ([], (0, ""), True))
 
 
 if __name__ == "__main__":

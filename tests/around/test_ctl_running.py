@@ -62,18 +62,18 @@ class UnitOfGateway(unittest.TestCase):
         program = [PYTHON, "-B", "-c", COMMAND, self.work, name, *words]
         rights = {} if user is None else {"user": user, "group": user, "extra_groups": [GROUP]}
         path = f"{self.work / 'bin'}:{os.environ['PATH']}"
-        done = subprocess.run(program, capture_output=True, text=True, timeout=60, env={"PATH": path}, cwd="/",
-                              stdin=subprocess.DEVNULL, **rights)
-        return Run(done.returncode, done.stdout, done.stderr)
+        process = subprocess.run(program, capture_output=True, text=True, timeout=60, env={"PATH": path}, cwd="/",
+                                 stdin=subprocess.DEVNULL, **rights)
+        return Run(process.returncode, process.stdout, process.stderr)
 
-    def assert_at_once(self, why: str) -> None:
+    def assert_at_once(self, reason: str) -> None:
         """Each order ends with this sentence, for each user, and nothing is written to the desk. An order that waits
         for an answer would be written."""
-        before = self.gateway.desk.read_bytes() if self.gateway.desk.exists() else None
+        desk_before = self.gateway.desk.read_bytes() if self.gateway.desk.exists() else None
         for user in (None, MEMBER) if os.getuid() == 0 else (None,):
             for words in ("status", "switch 01800ABC 0 on", "learn on --for 9", "devices --export"):
-                self.assertEqual(self.ctl(*words.split(" "), user=user), Run(SILENT, "", f"enogatectl: {why}\n"))
-        self.assertEqual(self.gateway.desk.read_bytes() if self.gateway.desk.exists() else None, before)
+                self.assertEqual(self.ctl(*words.split(" "), user=user), Run(SILENT, "", f"enogatectl: {reason}\n"))
+        self.assertEqual(self.gateway.desk.read_bytes() if self.gateway.desk.exists() else None, desk_before)
 
     def assert_answers(self) -> None:
         """The gateway answers orders soon."""
@@ -94,9 +94,9 @@ class UnitOfGateway(unittest.TestCase):
         """When the stick is plugged in, the gateway answers."""
         self.has_state("active")
         self.gateway.start(self.stick)
-        why = f"no stick at {self.stick.path}: plug it in, or correct SERIAL"
-        self.assertEqual(wait_for(self.gateway.journal, bool), [f"{why}; waiting"])
-        self.assert_at_once(f"enogate@hall waits: {why} in /etc/default/enogate-hall")
+        reason = f"no stick at {self.stick.path}: plug it in, or correct SERIAL"
+        self.assertEqual(wait_for(self.gateway.journal, bool), [f"{reason}; waiting"])
+        self.assert_at_once(f"enogate@hall waits: {reason} in /etc/default/enogate-hall")
         self.stick.start()
         self.assert_answers()
         self.stick.end(signal.SIGKILL)
@@ -130,10 +130,11 @@ class UnitOfGateway(unittest.TestCase):
 
     def test_the_name_of_no_gateway(self):
         (self.work / "etc/default/enogate-attic").touch()
-        why = ("enogatectl: there is no gateway Hall: did you mean hall? If not, make it: sudo systemctl enable --now "
-               "enogate@Hall\n")
+        reason = ("enogatectl: there is no gateway Hall: did you mean hall? If not, make it: sudo systemctl enable "
+                  "--now "
+                  "enogate@Hall\n")
         for words, status in (("status", SILENT), ("devices", REFUSED), ("lines", REFUSED), ("learn off", SILENT)):
-            self.assertEqual(self.ctl(*words.split(" "), name="Hall"), Run(status, "", why))
+            self.assertEqual(self.ctl(*words.split(" "), name="Hall"), Run(status, "", reason))
 
 
 if __name__ == "__main__":

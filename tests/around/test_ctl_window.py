@@ -24,21 +24,21 @@ class LearnWindowCommand(CtlTest):
     def open(self, *words: str):
         """Starts a command, and waits until the window is open."""
         process = self.begin("learn", *words)
-        self.opened = process.stdout.readline()
+        self.opened_line = process.stdout.readline()
         return process
 
     def test_it_closes_after_the_time(self):
-        begin = time.monotonic()
+        start_time = time.monotonic()
         self.assert_run(self.ctl("learn", "as", "F6-02-01", "--for", "0.5"), OK, OPENED.format("0.5") + CLOSED)
-        self.assertGreater(time.monotonic() - begin, 0.5)
+        self.assertGreater(time.monotonic() - start_time, 0.5)
         self.assertEqual(self.mode(), "closed")
 
     def test_each_signal_closes_it(self):
-        for number in (signal.SIGINT, signal.SIGTERM, signal.SIGHUP):
-            with self.subTest(number.name):
+        for signal_number in (signal.SIGINT, signal.SIGTERM, signal.SIGHUP):
+            with self.subTest(signal_number.name):
                 process = self.open("on", "--for", "60")
-                self.assertEqual((self.opened, self.mode()), (OPENED.format(60), "on"))
-                process.send_signal(number)
+                self.assertEqual((self.opened_line, self.mode()), (OPENED.format(60), "on"))
+                process.send_signal(signal_number)
                 self.assert_run(self.end(process), OK, CLOSED)
                 self.assertEqual(self.mode(), "closed")
 
@@ -98,8 +98,8 @@ class BaseCommand(unittest.TestCase):
 
     def base(self, *words: str | pathlib.Path) -> tuple[int, str, str]:
         words = (sys.executable, "-B", COMMAND, "base", *words)
-        done = subprocess.run(words, capture_output=True, text=True, timeout=60)
-        return done.returncode, done.stdout, done.stderr
+        process = subprocess.run(words, capture_output=True, text=True, timeout=60)
+        return process.returncode, process.stdout, process.stderr
 
     def test_the_module_answers(self):
         work = pathlib.Path(self.enterContext(tempfile.TemporaryDirectory()))
@@ -107,8 +107,8 @@ class BaseCommand(unittest.TestCase):
         stick.start()
         self.assertEqual(self.base(stick.path), (OK, f"{BASE}\n", ""))
         lock = ["flock", "-n", "-E", "99", "-x", stick.path, sys.executable, "-B", COMMAND, "base", stick.path]
-        done = subprocess.run(lock, capture_output=True, text=True, timeout=60)
-        self.assertEqual((done.returncode, done.stdout, done.stderr), (
+        process = subprocess.run(lock, capture_output=True, text=True, timeout=60)
+        self.assertEqual((process.returncode, process.stdout, process.stderr), (
             REFUSED, "", f"enogatectl: another program has locked {stick.path}: stop it, or correct SERIAL\n"))
 
     def test_no_module(self):
@@ -136,8 +136,8 @@ class PathsCommand(unittest.TestCase):
 
     def test_each_gateway_has_its_files(self):
         words = (sys.executable, "-B", COMMAND, "paths")
-        done = subprocess.run(words, capture_output=True, text=True, timeout=60)
-        self.assertEqual((done.returncode, done.stderr), (OK, ""))
-        self.assertEqual(json.loads(done.stdout), {
+        process = subprocess.run(words, capture_output=True, text=True, timeout=60)
+        self.assertEqual((process.returncode, process.stderr), (OK, ""))
+        self.assertEqual(json.loads(process.stdout), {
             name: {"desk": f"/run/enogate/{name}/desk", "lines": f"/var/log/enogate/{name}.lines",
-                   "settings": f"/etc/default/enogate-{name}"} for name in json.loads(done.stdout)})
+                   "settings": f"/etc/default/enogate-{name}"} for name in json.loads(process.stdout)})

@@ -73,20 +73,20 @@ def request_login(user: str, password: str) -> Response:
 def order_processes(user: str) -> list[pathlib.Path]:
     """The processes that give the orders of pages on the system with the rights of this user. Those of a page that was
     left may run a little longer."""
-    found = []
+    process_numbers = []
     for process in pathlib.Path("/proc").glob("[0-9]*"):
         with contextlib.suppress(OSError):
             words = (process / "cmdline").read_text().split("\0")
             is_of_user = process.stat().st_uid == uid_of(user)
             if "--serve" in words and is_of_user and os.path.samefile(process / "root", ROOT):
-                found.append(process)
-    return found
+                process_numbers.append(process)
+    return process_numbers
 
 
 def uid_of(user: str) -> int:
     """The number of a user of the system."""
-    [found] = re.findall(f"^{user}:[^:]*:([0-9]+):", (ROOT / "etc/passwd").read_text(), re.MULTILINE)
-    return int(found)
+    [uid] = re.findall(f"^{user}:[^:]*:([0-9]+):", (ROOT / "etc/passwd").read_text(), re.MULTILINE)
+    return int(uid)
 
 
 def inside(*words: str) -> str:
@@ -110,8 +110,9 @@ class ServedFiles(unittest.TestCase):
         response = request_login(*GROUP_MEMBER)
         self.assertEqual(response.status, 200)
         for name in names:
-            found = request_file(FILES + name, Cookie=response.cookie)
-            self.assertEqual((found.status, found.text), (200, (CONTRIB / "cockpit/enogate" / name).read_bytes()), name)
+            file_response = request_file(FILES + name, Cookie=response.cookie)
+            self.assertEqual((file_response.status, file_response.text),
+                             (200, (CONTRIB / "cockpit/enogate" / name).read_bytes()), name)
 
     def test_a_wrong_password_an_unknown_user_and_a_wrong_cookie_are_refused(self):
         for user, password in (("tech", "chief-password"), ("nobody", "x")):
@@ -135,17 +136,17 @@ class PageInShell(unittest.TestCase):
     def shortDescription(self) -> None:
         """Only the names of tests are printed, without their docstrings."""
 
-    def wait(self, see: Callable[[], bool]) -> None:
+    def wait(self, observe: Callable[[], bool]) -> None:
         """Waits until this is so. An element may not be there yet."""
         def look() -> bool:
             with contextlib.suppress(WebDriverException):
-                return see()
+                return observe()
             return False
         self.assertTrue(wait_for(look, bool))
 
     def wait_for_text(self, selector: str, text: str) -> None:
-        seen = wait_for(lambda: self.browser.text(selector), lambda seen: text in seen)
-        self.assertIn(text, seen)
+        observation = wait_for(lambda: self.browser.text(selector), lambda observation: text in observation)
+        self.assertIn(text, observation)
 
     def log_in(self, user: str, password: str, state: str = "live") -> None:
         """Logs in with the form, and goes to the page in its frame."""

@@ -37,7 +37,8 @@ class EncryptedConnections(BridgeTest):
         self.bridge.desk.touch()
         self.start_bridge(**self.tls_settings("ca.crt"))
         self.broker.publish(f"{TOPIC_ROOT}/01800ABC/OV/0/set", "ON")
-        self.assert_soon(lambda: [it for it in lines_of(self.bridge.desk) if it.startswith("switch")],
+        self.assert_soon(lambda: [order_line
+                                  for order_line in lines_of(self.bridge.desk) if order_line.startswith("switch")],
                          ["switch 01800ABC 0 on"])
 
     def test_a_broker_of_another_authority(self):
@@ -73,9 +74,9 @@ class EncryptedConnections(BridgeTest):
         self.assert_seen([line[:len(reason)] for line in journal[:count]], [reason] * count)
 
     def test_a_wrong_password(self):
-        wrong = self.work / "wrong.password"
-        wrong.write_text(f"{PEOPLE_LOGIN[1]}\n")
-        self.bridge.start(MQTT_PASSWORD_FILE=str(wrong))
+        wrong_password_file = self.work / "wrong.password"
+        wrong_password_file.write_text(f"{PEOPLE_LOGIN[1]}\n")
+        self.bridge.start(MQTT_PASSWORD_FILE=str(wrong_password_file))
         self.assert_retries(f"{self.broker.port}: rejected by the broker: Not authorized", "not authorised")
 
     def test_no_broker(self):
@@ -86,10 +87,10 @@ class EncryptedConnections(BridgeTest):
             server.settimeout(WITHIN)
             server.accept()[0].close()
 
-    def assert_retries(self, reason: str, rejected: str) -> None:
+    def assert_retries(self, reason: str, rejection: str) -> None:
         """The journal has this reason, only once, and the broker rejects the bridge again, with this text."""
         self.assert_logged(f"no connection to localhost:{reason}")
-        self.assert_rejected(rejected)
+        self.assert_rejected(rejection)
         self.assert_seen(len([line for line in self.bridge.journal() if "no connection" in line]), 1)
 
     def assert_rejected(self, text: str) -> None:
@@ -105,10 +106,10 @@ class RefusedPublications(BridgeTest):
             f"user {PEOPLE_LOGIN[0]}\ntopic readwrite #\nuser {BRIDGE_LOGIN[0]}\ntopic read #\n")
         self.start_broker()
         self.bridge.start()
-        refused = f"the broker at localhost:{self.broker.port} accepts the connection, but refuses what is published: "
-        self.assert_logged(f"{refused}{TOPIC_ROOT}/status did not come back within 15 seconds")
+        refusal = f"the broker at localhost:{self.broker.port} accepts the connection, but refuses what is published: "
+        self.assert_logged(f"{refusal}{TOPIC_ROOT}/status did not come back within 15 seconds")
         self.assert_seen([line for line in self.bridge.journal() if "connected to" in line], [])
-        self.assert_seen(self.heard.messages(), [])
+        self.assert_seen(self.listener.messages(), [])
 
 
 class SameClientName(BridgeTest):
@@ -118,8 +119,8 @@ class SameClientName(BridgeTest):
         self.start_broker()
         self.start_bridge()
         self.broker.run_client("sub", "-i", "enogate-hall", "-t", "x", "-W", "1")
-        named = "another client has the name enogate-hall"
-        self.assert_soon(lambda: [named for line in self.bridge.journal() if named in line][:1], [named])
+        client = "another client has the name enogate-hall"
+        self.assert_soon(lambda: [client for line in self.bridge.journal() if client in line][:1], [client])
 
 
 class RandomPackets(unittest.TestCase):

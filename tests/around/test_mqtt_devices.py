@@ -20,7 +20,7 @@ PRESSES = (
     '01800A0D/press {"event_type":"released"}', '01800A0E/press {"event_type":"C0"}',
     '01800A0E/press {"event_type":"BI"}',
 )
-LAST_SEEN_MESSAGE = re.compile(rf"{TOPIC_ROOT}/(\w+)/last_seen 20[-0-9]+T[:0-9]+\+00:00")
+LAST_SEEN_MESSAGE_PATTERN = re.compile(rf"{TOPIC_ROOT}/(\w+)/last_seen 20[-0-9]+T[:0-9]+\+00:00")
 # An empty message on this topic removes an entity of a device from Home Assistant.
 SHOWN_TOPIC = "homeassistant/event/enogate_hall/{}_press/config "
 
@@ -36,7 +36,7 @@ class FirstLabel(GatewayTest):
     def shown_names(self, device: str) -> list[str]:
         """The names under which Home Assistant was shown the contact of a device."""
         topic = f"homeassistant/binary_sensor/enogate_hall/{device}_CO/config "
-        return [json.loads(message.removeprefix(topic))["device"]["name"] for message in self.heard.messages()
+        return [json.loads(message.removeprefix(topic))["device"]["name"] for message in self.listener.messages()
                 if message.startswith(topic)]
 
     def test_a_label_is_in_the_first_message(self):
@@ -67,8 +67,9 @@ class DevicesOfEachKind(KindsTest):
         self.wait_until_handled()
 
     def add_and_teach_in(self) -> None:
-        added = [order for order in ADD_ORDERS if "01800ABC" not in order]
-        self.broker.publish(f"{TOPIC_ROOT}/orders", "\n".join([*added[:9], "", *added[9:], "learn on", "status"]))
+        added_orders = [order for order in ADD_ORDERS if "01800ABC" not in order]
+        self.broker.publish(f"{TOPIC_ROOT}/orders",
+                            "\n".join([*added_orders[:9], "", *added_orders[9:], "learn on", "status"]))
         self.assert_published(f"{TOPIC_ROOT}/learn ON")
         self.stick.bring_packet(TEACH_IN)
         self.assert_lines(LEARNED_LINE)
@@ -81,18 +82,20 @@ class DevicesOfEachKind(KindsTest):
         with self.subTest("the orders of a message are given in their sequence"):
             self.assert_seen(self.stick.sent(), TEACH_IN_REPLY)
         with self.subTest("readings are retained"):
-            seen = sorted(f"{topic} {text}" for topic, text in retained.items()
-                          if topic.startswith(TOPIC_ROOT) and not topic.endswith("/dbm"))
-            self.assert_seen(seen, stored_lines("states"))
+            retained_lines = sorted(f"{topic} {text}" for topic, text in retained.items()
+                                    if topic.startswith(TOPIC_ROOT) and not topic.endswith("/dbm"))
+            self.assert_seen(retained_lines, stored_lines("states"))
         with self.subTest("signal strengths are retained"):
-            seen = {topic: text for topic, text in retained.items() if topic.endswith("/dbm")}
-            self.assert_seen(seen, {f"{TOPIC_ROOT}/{device}/dbm": "-45" for device, _, _ in DEVICES_OF_EACH_KIND})
+            retained_lines = {topic: text for topic, text in retained.items() if topic.endswith("/dbm")}
+            self.assert_seen(retained_lines,
+                             {f"{TOPIC_ROOT}/{device}/dbm": "-45" for device, _, _ in DEVICES_OF_EACH_KIND})
         with self.subTest("the times of telegrams are published"):
-            seen = {time[1] for time in map(LAST_SEEN_MESSAGE.fullmatch, self.heard.messages()) if time}
-            self.assert_seen(sorted(seen), [device for device, _, _ in DEVICES_OF_EACH_KIND])
+            retained_lines = {time[1]
+                              for time in map(LAST_SEEN_MESSAGE_PATTERN.fullmatch, self.listener.messages()) if time}
+            self.assert_seen(sorted(retained_lines), [device for device, _, _ in DEVICES_OF_EACH_KIND])
         with self.subTest("presses are published as events"):
-            seen = [message for message in self.heard.messages() if "/press " in message]
-            self.assert_seen(seen, [f"{TOPIC_ROOT}/{press}" for press in PRESSES])
+            retained_lines = [message for message in self.listener.messages() if "/press " in message]
+            self.assert_seen(retained_lines, [f"{TOPIC_ROOT}/{press}" for press in PRESSES])
         with self.subTest("Home Assistant is shown each device"):
             self.assert_shown(retained)
         with self.subTest("a device is removed"):
@@ -119,14 +122,15 @@ class DevicesOfEachKind(KindsTest):
 
     def remove_device_while_stopped(self) -> None:
         """Everything else stays retained. Since lines are rotated, only the broker still has the readings."""
-        before = self.retained()
+        retained_before = self.retained()
         self.bridge.end()
         for file in self.bridge.state.parent.iterdir():
             file.unlink()
         self.gateway.rotate()
         self.order("remove 01800A0E")
-        self.heard.forget()
+        self.listener.forget()
         self.start_bridge()
         self.assert_published(SHOWN_TOPIC.format("01800A0E"), f"{TOPIC_ROOT}/01800A0E/R1 ")
         self.wait_until_handled()
-        self.assert_seen(self.retained(), {topic: before[topic] for topic in before if "01800A0E" not in topic})
+        self.assert_seen(self.retained(),
+                         {topic: retained_before[topic] for topic in retained_before if "01800A0E" not in topic})

@@ -27,7 +27,8 @@ class ManyLines(GatewayTest):
         self.gateway.append("".join(map(READING.format, range(9000))) + press)
         self.assert_published(f'{TOPIC_ROOT}/01800A0D/press {{"event_type":"BI"}}')
         self.assert_published(f"{DEVICE}/TMP 8999")
-        self.assertLess(len([it for it in self.heard.messages() if it.startswith(f"{DEVICE}/TMP ")]), 2000)
+        self.assertLess(len([message for message in self.listener.messages() if message.startswith(f"{DEVICE}/TMP ")]),
+                        2000)
 
 
 class TimesOfLines(GatewayTest):
@@ -70,9 +71,9 @@ class IdleBridge(GatewayTest):
         self.start_bridge()
         self.wait_until_handled()
         time.sleep(2)
-        before = self.wait_count()
+        count_before = self.wait_count()
         time.sleep(5)
-        self.assertLess(self.wait_count() - before, 15)
+        self.assertLess(self.wait_count() - count_before, 15)
 
     def wait_count(self) -> int:
         """How often the bridge has waited."""
@@ -101,7 +102,7 @@ class LinesOfGateway(GatewayTest):
         with self.subTest("an order that is retained"):
             self.assert_logged(f"message on '{TOPIC_ROOT}/orders' ignored: it is retained")
             self.assert_seen(self.stick.sent(), "")
-        self.heard.forget()
+        self.listener.forget()
         with self.subTest("a torn line"):
             self.assert_torn_line()
         with self.subTest("a rotation"):
@@ -114,8 +115,10 @@ class LinesOfGateway(GatewayTest):
             self.bring_temperature("A5 00007F08", "20.0784")
         self.wait_until_handled()
         with self.subTest("each reading is published once"):
-            seen = [message for message in self.heard.messages() if message.startswith(f"{DEVICE}/TMP ")]
-            self.assert_seen(seen, [f"{DEVICE}/TMP {value}" for value in ("40", "0", "20.0784")])
+            temperature_messages = [message
+                                    for message in self.listener.messages() if message.startswith(f"{DEVICE}/TMP ")]
+            self.assert_seen(temperature_messages,
+                             [f"{DEVICE}/TMP {temperature}" for temperature in ("40", "0", "20.0784")])
         with self.subTest("the journal"):
             self.assert_seen(self.bridge.journal()[2:], [
                 f"enogate-mqtt: invalid line ignored: b'{TORN_LINE}'", f"enogate-mqtt: {self.reason_of_truncation()}"])
@@ -142,10 +145,10 @@ class LinesOfGateway(GatewayTest):
         self.assert_logged(f"invalid line ignored: b'{TORN_LINE}'")
         self.bring_temperature("A5 00000008", "40")
 
-    def bring_temperature(self, telegram: str, value: str) -> None:
+    def bring_temperature(self, telegram: str, temperature: str) -> None:
         """The device sends this telegram, and its value is published."""
         self.bring("01800A02", telegram)
-        self.assert_published(f"{DEVICE}/TMP {value}")
+        self.assert_published(f"{DEVICE}/TMP {temperature}")
 
     def reason_of_truncation(self) -> str:
         return f"{self.gateway.lines_path}: file truncated, continuing at its end"

@@ -47,7 +47,7 @@ class ActuatorQueries(GatewayTest):
         self.gateway.start(self.stick)
         self.assert_soon(self.stick.sent, 2 * packets)
         self.bridge.end()
-        self.heard.forget()
+        self.listener.forget()
         self.start_bridge(MQTT_QUERY="yes")
         self.wait_until_handled()
         self.assert_seen(self.stick.sent(), 2 * packets)
@@ -76,21 +76,22 @@ class PublishedOrders(GatewayTest):
 
     def assert_each_command(self) -> None:
         """Each is sent as one packet."""
-        for place, command, packet in COMMANDS:
+        for command_topic, command, packet in COMMANDS:
             if not packet.startswith("55"):
-                packet = gateway_telegram_packet(0xD2, bytes.fromhex(packet), int(BASE, 16), int(place[:8], 16)).hex()
-            with self.subTest(place=place, command=command):
-                before = self.stick.sent()
-                self.broker.publish(f"{TOPIC_ROOT}/{place}/set", command)
-                self.assert_soon(lambda: self.stick.sent().removeprefix(before), packet)
+                packet = gateway_telegram_packet(0xD2, bytes.fromhex(packet), int(BASE, 16),
+                                                 int(command_topic[:8], 16)).hex()
+            with self.subTest(place=command_topic, command=command):
+                sent_before = self.stick.sent()
+                self.broker.publish(f"{TOPIC_ROOT}/{command_topic}/set", command)
+                self.assert_soon(lambda: self.stick.sent().removeprefix(sent_before), packet)
 
     def assert_invalid_orders(self) -> None:
         """The broker does not send a message of 1 MB to the bridge."""
         # the bridge gives no order by itself for some seconds after a telegram
         self.bring("01800A10", "D2 046064")
         self.wait_until_handled()
-        self.heard.forget()
-        before = len(self.orders_of_others())
+        self.listener.forget()
+        order_count = len(self.orders_of_others())
         orders = f"{TOPIC_ROOT}/orders"
         self.broker.publish(orders, "x" * 20000)
         self.broker.publish(orders, bytes(1000000))
@@ -100,7 +101,7 @@ class PublishedOrders(GatewayTest):
             errors = [f'{{"error":"{error}","type":"error"}}' for error in ("too_long", "syntax")]
             self.assert_soon(self.answer_lines, [*errors, OK, OK])
         with self.subTest("the orders"):
-            self.assert_seen(self.orders_of_others()[before:], ["0" * 202, "li\0st", "learn on", "learn off"])
+            self.assert_seen(self.orders_of_others()[order_count:], ["0" * 202, "li\0st", "learn on", "learn off"])
         with self.subTest("the journal"):
             self.assert_seen(self.bridge.journal()[2:], [])
 
@@ -118,12 +119,12 @@ class OrdersLostByRestart(GatewayTest):
         self.broker.publish(f"{TOPIC_ROOT}/01800ABC/OV/0/set", "OFF")
         self.broker.publish(f"{TOPIC_ROOT}/orders", "list\nlevel 5 40 10")
         self.assert_soon(lambda: lines_of(self.gateway.desk)[-1:], ["level 5 40 10"])
-        before = self.stick.sent()
+        sent_before = self.stick.sent()
         self.gateway.start(self.stick)
         self.assert_logged("not answered before the gateway was started again, so probably lost: "
                            "'switch 01800ABC 0 off', 'level 5 40 10'")
         self.wait_until_handled()
-        self.assert_seen(self.stick.sent(), before)
+        self.assert_seen(self.stick.sent(), sent_before)
 
 
 class IgnoredMessages(BridgeTest):
@@ -136,13 +137,13 @@ class IgnoredMessages(BridgeTest):
         self.start_bridge()
 
     def test_messages_that_are_no_commands(self):
-        for place, command, why in INVALID_COMMANDS:
-            with self.subTest(place=place, command=command):
-                topic = f"{TOPIC_ROOT}/{place}/set"
+        for command_topic, command, reason in INVALID_COMMANDS:
+            with self.subTest(place=command_topic, command=command):
+                topic = f"{TOPIC_ROOT}/{command_topic}/set"
                 self.broker.publish(topic, command)
-                self.assert_logged(f"message on '{topic}' ignored: {why}")
-        given = [order for order in lines_of(self.bridge.desk) if order not in ORDERS_OF_BRIDGE]
-        self.assert_seen(given, [])
+                self.assert_logged(f"message on '{topic}' ignored: {reason}")
+        given_orders = [order for order in lines_of(self.bridge.desk) if order not in ORDERS_OF_BRIDGE]
+        self.assert_seen(given_orders, [])
 
     def test_an_order_without_a_desk_is_lost(self):
         self.bridge.desk.unlink()

@@ -29,7 +29,7 @@ class BridgeStops(KindsTest):
         with self.subTest("killed"):
             self.kill_and_restart()
         with self.subTest("the broker publishes the last will of an earlier connection late"):
-            self.heard.forget()
+            self.listener.forget()
             self.broker.publish(f"{TOPIC_ROOT}/status", "offline", "-r")
             self.assert_published(ONLINE)
 
@@ -40,23 +40,23 @@ class BridgeStops(KindsTest):
             self.assert_published(OFFLINE)
         self.bring("01800A01", "D5 08")
         self.bring("01800A0D", "F6 30 30")
-        rotated = self.gateway.lines()
+        rotated_path = self.gateway.lines()
         self.gateway.rotate()
         self.bring("01800A02", "A5 00000008")
-        self.heard.forget()
+        self.listener.forget()
         self.restart_bridge()
         with self.subTest("what changed"):
             self.assert_seen(self.published(), [
                 f"{TOPIC_ROOT}/01800A01/CO open", f"{TOPIC_ROOT}/01800A02/TMP 40", f"{TOPIC_ROOT}/01800A0D/EB pressed",
                 f"{TOPIC_ROOT}/01800A0D/R1 A0", f"{TOPIC_ROOT}/01800A0D/buttons ", ONLINE])
         with self.subTest("the lines of then, each once"):
-            self.assert_seen(self.published_lines("reading"), [*rotated[-2:], self.gateway.lines()[0]])
+            self.assert_seen(self.published_lines("reading"), [*rotated_path[-2:], self.gateway.lines()[0]])
 
     def kill_and_restart(self) -> None:
         """Meanwhile nothing changes."""
         self.assert_soon(lambda: f"{self.gateway.size() - self.bridge.saved_offset()} bytes of lines are not saved",
                          "0 bytes of lines are not saved")
-        self.heard.forget()
+        self.listener.forget()
         self.bridge.end(signal.SIGKILL)
         with self.subTest("its last will"):
             self.assert_published(OFFLINE)
@@ -76,7 +76,7 @@ class BridgeStops(KindsTest):
         self.bridge.end(signal.SIGKILL)
         self.gateway.end()
         self.gateway.zero_end(100)
-        self.heard.forget()
+        self.listener.forget()
         self.bridge.start(BOOT="another-boot")
         self.assert_published(ONLINE)
         self.assert_logged(f"{self.gateway.lines_path}: lines were lost, continuing at the end")
@@ -88,12 +88,12 @@ class BridgeStops(KindsTest):
         with self.subTest("the lines that are published"):
             self.assert_seen(self.published_lines("reading"), lines_of_type(self.gateway.lines(), "reading")[-1:])
         with self.subTest("the presses"):
-            self.assert_seen([message for message in self.heard.messages() if "/press " in message],
+            self.assert_seen([message for message in self.listener.messages() if "/press " in message],
                              [f'{TOPIC_ROOT}/01800A0D/press {{"event_type":"AI"}}'])
 
     def test_a_broker_that_was_killed_gets_everything_again(self):
         """Meanwhile two devices send, and the bridge is started again. Its second start has no connection."""
-        before = self.retained()
+        retained_before = self.retained()
         self.kill_broker()
         self.bring("01800A01", "D5 08")
         self.bring("01800A0D", "F6 10 30")
@@ -110,27 +110,27 @@ class BridgeStops(KindsTest):
         self.assert_lines(line)
         self.wait_until_handled()
         with self.subTest("what is retained"):
-            del before[f"{TOPIC_ROOT}/01800A0D/buttons"]
-            changed = {"01800A01/CO": "open", "01800A0D/EB": "pressed", "01800A0D/R1": "AI"}
-            now = {f"{TOPIC_ROOT}/{place}": text for place, text in changed.items()}
-            self.assert_seen(self.retained(), before | now)
+            del retained_before[f"{TOPIC_ROOT}/01800A0D/buttons"]
+            changed_states = {"01800A01/CO": "open", "01800A0D/EB": "pressed", "01800A0D/R1": "AI"}
+            now = {f"{TOPIC_ROOT}/{subtopic}": text for subtopic, text in changed_states.items()}
+            self.assert_seen(self.retained(), retained_before | now)
         with self.subTest("no press of then"):
-            self.assert_seen([message for message in self.heard.messages() if "/press " in message], [])
+            self.assert_seen([message for message in self.listener.messages() if "/press " in message], [])
         with self.subTest("the journal has the reason once"):
             self.assert_seen(len([line for line in self.bridge.journal() if "no connection" in line]), 1)
 
     def test_what_somebody_removes_comes_back(self):
         """By the command of the guide, but without stopping the bridge first."""
-        before = self.retained()
+        retained_before = self.retained()
         words = ("--retained-only", "--remove-retained", "-W", "2", "-t", f"{TOPIC_ROOT}/#", "-t",
                  "homeassistant/+/enogate_hall/+/config")
         self.broker.run_client("sub", *words)
         self.assert_soon(lambda: self.retained().get(f"{TOPIC_ROOT}/status"), "online")
-        self.assert_soon(lambda: sorted(before.items() - self.retained().items()), [])
+        self.assert_soon(lambda: sorted(retained_before.items() - self.retained().items()), [])
 
     def kill_broker(self) -> None:
         self.broker.end(signal.SIGKILL)
-        self.heard.end()
+        self.listener.end()
         self.assert_no_connection()
 
     def assert_no_connection(self) -> None:
@@ -142,7 +142,7 @@ class SilentGatewayOrModule(GatewayTest):
 
     def assert_within_15_seconds(self, message: str) -> None:
         began = time.monotonic()
-        wait_for(lambda: message in self.heard.messages(), bool)
+        wait_for(lambda: message in self.listener.messages(), bool)
         seconds = time.monotonic() - began
         self.assert_published(message)
         self.assertLess(seconds, 15)
@@ -155,7 +155,7 @@ class SilentGatewayOrModule(GatewayTest):
             self.assert_within_15_seconds(f"{TOPIC_ROOT}/module offline")
             self.assert_seen(self.retained()[f"{TOPIC_ROOT}/gateway"], "online")
         with self.subTest("the module responds again"):
-            self.heard.forget()
+            self.listener.forget()
             self.stick.send(signal.SIGCONT)
             self.assert_published(f"{TOPIC_ROOT}/module online")
         with self.subTest("the gateway"):

@@ -170,20 +170,20 @@ def ctl_program() -> pathlib.Path:
 def running(*words: str) -> set[int]:
     """The processes of enogatectl that have all of these words on their command lines. One that only keeps the desk
     locked until no answer can come any more does not count: it has a session of its own, and may outlive its page."""
-    found = set()
+    process_numbers = set()
     for path in pathlib.Path("/proc").glob("[0-9]*/cmdline"):
         with contextlib.suppress(OSError):
-            given, process = path.read_text().split("\0"), int(path.parent.name)
-            is_command = any(one.startswith(f"{work}/") and one.endswith("/bin/enogatectl") for one in given)
-            if is_command and set(words) <= set(given) and os.getsid(process) != process:
-                found.add(process)
-    return found
+            process_words, process = path.read_text().split("\0"), int(path.parent.name)
+            is_command = any(word.startswith(f"{work}/") and word.endswith("/bin/enogatectl") for word in process_words)
+            if is_command and set(words) <= set(process_words) and os.getsid(process) != process:
+                process_numbers.add(process)
+    return process_numbers
 
 
 def check_that_all_processes_have_ended() -> None:
     """After the end of Cockpit, no process of enogatectl may run."""
-    left = wait_for(running, lambda found: not found)
-    assert not left, f"these processes run without Cockpit: {left}"
+    processes_left = wait_for(running, lambda processes_left: not processes_left)
+    assert not processes_left, f"these processes run without Cockpit: {processes_left}"
 
 
 class PageTest(unittest.TestCase):
@@ -214,25 +214,26 @@ class PageTest(unittest.TestCase):
     def tearDown(self) -> None:
         self.assertEqual(browser.complaints(), [])
 
-    def wait(self, see, is_so, what: str = "") -> object:
+    def wait(self, observe, is_expected, subject: str = "") -> object:
         """What `see` returns once it is so. An element that is being replaced is looked for again."""
         def look():
             with contextlib.suppress(WebDriverException):
-                return see()
-        seen = wait_for(look, lambda found: found is not None and is_so(found))
-        self.assertTrue(seen is not None and is_so(seen), f"{what}: {seen!r}")
-        return seen
+                return observe()
+        observation = wait_for(look, lambda observation: observation is not None and is_expected(observation))
+        self.assertTrue(observation is not None and is_expected(observation), f"{subject}: {observation!r}")
+        return observation
 
     def wait_for_text(self, selector: str, *texts: str) -> None:
         """Waits until an element has these texts."""
-        def has_all(seen: str) -> bool:
-            return all(text in seen for text in texts)
+        def has_all(text_of_page: str) -> bool:
+            return all(text in text_of_page for text in texts)
         self.wait(lambda: browser.text(selector), has_all, f"{selector} {texts}")
 
     def wait_for_no_text(self, selector: str, text: str) -> None:
-        self.wait(lambda: browser.text(selector), lambda seen: text not in seen, f"{selector} without {text}")
+        self.wait(lambda: browser.text(selector), lambda text_of_page: text not in text_of_page,
+                  f"{selector} without {text}")
 
-    def tab(self, name: str) -> None:
+    def open_tab(self, name: str) -> None:
         browser.click(f"#tab-{name}")
         self.wait(lambda: browser.find(f"#{name}").is_displayed(), bool, name)
 
@@ -257,22 +258,22 @@ class PageTest(unittest.TestCase):
         script = "return [...document.querySelectorAll(arguments[0])].map(row => row.dataset.id)"
         return list(browser.run(script, f"#{section}-rows tr"))
 
-    def learn(self, device: str, eep: str, label: str = "") -> None:
+    def learn_device(self, device: str, eep: str, label: str = "") -> None:
         """Learns a device, and waits until the page shows it."""
         ctl("add", device, eep)
         if label:
             ctl("label", device, label)
         self.refresh()
-        self.tab("devices")
+        self.open_tab("devices")
         self.wait_for_text(self.row(device), eep, label)
 
-    def leave(self) -> None:
+    def leave_page(self) -> None:
         """Moves the pointer away from all lists, whose rows do not move below it."""
         ActionChains(browser.driver).move_to_element(browser.find("h1")).perform()
 
     def refresh(self) -> None:
         """Lets the page ask for the devices and the counters."""
-        self.tab("overview")
+        self.open_tab("overview")
         self.wait(lambda: browser.find("#gateway-refresh").is_enabled(), bool, "the button Refresh")
         browser.click("#gateway-refresh")
 
@@ -287,7 +288,7 @@ class PageTest(unittest.TestCase):
 
     def label_at_result(self, device: str, label: str) -> None:
         """Labels a device at its result in the learn window, and opens its view by the new label."""
-        self.tab("add")
+        self.open_tab("add")
         self.wait_for_text(self.result(device), f"(no label){device}", "learned", "Label …")
         browser.click(self.result(device) + " button")
         self.wait_for_text("#edit-id", device)
@@ -306,7 +307,7 @@ class PageTest(unittest.TestCase):
 
     def learn_by_id(self, device: str, label: str) -> None:
         """Learns a device that has sent nothing yet."""
-        self.tab("add")
+        self.open_tab("add")
         browser.click("#learn-by-id")
         self.assertEqual(browser.run("return document.activeElement.id"), "learn-new")
         self.assertGreater(len(Select(browser.find("#learn-profile")).options), 60)
@@ -326,32 +327,32 @@ class PageTest(unittest.TestCase):
 
     def back_up(self) -> str:
         """Makes a backup by the button, and returns its path."""
-        self.tab("overview")
+        self.open_tab("overview")
         self.wait(lambda: browser.find("#gateway-backup").is_enabled(), bool, "the button Back up")
         count = json.loads(ctl("list").splitlines()[-1])["count"]
         path = f"/var/backups/enogate/hall-{datetime.now():%Y-%m-%d}.tar.gz"
         replaced = "; the earlier backup of this day was replaced" if os.path.exists(path) else ""
         browser.click("#gateway-backup")
-        wanted = f"Backup written: {path}: {count} devices{replaced}"
-        self.wait(lambda: browser.find("#gateway-note").text, lambda text: text == wanted, wanted)
+        expected_message = f"Backup written: {path}: {count} devices{replaced}"
+        self.wait(lambda: browser.find("#gateway-note").text, lambda text: text == expected_message, expected_message)
         return path
 
     def wait_until_hidden(self, selector: str) -> None:
-        self.wait(lambda: browser.find(selector).is_displayed(), lambda shown: not shown, f"{selector} is hidden")
+        self.wait(lambda: browser.find(selector).is_displayed(), lambda is_shown: not is_shown, f"{selector} is hidden")
 
 
 class ShownContents(PageTest):
     """What the page shows of devices, gateways and packets."""
 
     def test_the_reading_of_a_contact_appears(self):
-        self.learn("01800A01", "D5-00-01", "Front door")
+        self.learn_device("01800A01", "D5-00-01", "Front door")
         stick.bring("01800A01", CLOSED)
         self.wait_for_text(self.row("01800A01"), "Front door", "Contact closed", "-45 dBm", "s ago")
         stick.bring("01800A01", OPEN)
         self.wait_for_text(self.row("01800A01"), "Contact open")
 
     def test_a_sensor_has_decimals_units_and_a_plot(self):
-        self.learn("01800A02", "A5-02-05", "Office")
+        self.learn_device("01800A02", "A5-02-05", "Office")
         for payload in ("00007F08", "00006008", "00008008", "00006808"):
             stick.bring("01800A02", f"A5 {payload}")
         self.wait_for_text(self.row("01800A02"), "Temperature 23.69 °C")
@@ -361,7 +362,7 @@ class ShownContents(PageTest):
 
     def test_devices_are_sorted_filtered_and_highlighted(self):
         for device, label in (("01800A11", "zz 2"), ("01800A12", "zz 1"), ("01800A13", "zz 3")):
-            self.learn(device, "D5-00-01", label)
+            self.learn_device(device, "D5-00-01", label)
         browser.type("#search", "ZZ")
         self.wait(lambda: self.ids("devices"), lambda ids: ids == ["01800A12", "01800A11", "01800A13"])
         browser.click("[data-column=label] button")
@@ -379,19 +380,20 @@ class ShownContents(PageTest):
         browser.type("#devices-quiet", "1440")
         self.wait_for_quiet(self.row("01800A12"), False)
 
-    def wait_for_quiet(self, selector: str, wanted: bool) -> None:
+    def wait_for_quiet(self, selector: str, is_quiet: bool) -> None:
         script = "return document.querySelector(arguments[0]).classList.contains('quiet')"
-        self.wait(lambda: browser.run(script, selector), lambda seen: seen is wanted, f"{selector} quiet: {wanted}")
+        self.wait(lambda: browser.run(script, selector), lambda observation: observation is is_quiet,
+                  f"{selector} quiet: {is_quiet}")
 
     def test_the_gateway_has_a_state_a_stick_a_base_id_and_counters(self):
         for name, text in (("service", "running"), ("stick", f"plugged in ({stick.path})"), ("base", "FF800000"),
                            ("module", "FF800000, reported"), ("window", "closed")):
             self.wait_for_text(f"#gateway-{name}", text)
-        before = json.loads(ctl("status"))["ignored"]
+        count_before = json.loads(ctl("status"))["ignored"]
         stick.bring("01800A03", PRESS)
         self.wait_for_packet("01800A03")
         self.refresh()
-        self.wait_for_text("#counter-ignored", str(before + 1))
+        self.wait_for_text("#counter-ignored", str(count_before + 1))
         self.shoot("overview")
 
     def test_a_base_id_of_the_module_that_differs_is_reported_while_it_does(self):
@@ -400,7 +402,7 @@ class ShownContents(PageTest):
         gateway.append(report % "FF812300")
         self.wait_for_text("#attention", "BASE is FF800000, but the base ID of the radio module is FF812300")
         self.assertEqual(browser.run("return document.querySelector('#verdict').dataset.level"), "bad")
-        self.tab("devices")
+        self.open_tab("devices")
         self.wait_for_text("#trouble", "BASE is FF800000, but the base ID of the radio module is FF812300", "Restart")
         gateway.append(report % "FF800000")
         self.wait_until_hidden("#trouble")
@@ -410,7 +412,7 @@ class ShownContents(PageTest):
 
     def test_each_gateway_has_a_tab_and_remains_open(self):
         self.addCleanup(browser.run, FORGET_GATEWAY)
-        self.tab("devices")
+        self.open_tab("devices")
         browser.click("[data-gateway=yard]")
         self.wait_for_text("#trouble", "/var/log/enogate/yard.lines is missing", "The gateway yard is stopped")
         self.assertEqual(self.ids("devices"), [])
@@ -435,30 +437,31 @@ class ShownContents(PageTest):
 
     def test_devices_are_grouped_by_the_first_word_of_their_labels(self):
         labels = ("Qattic 2 window", "Qattic lamp", "Qgate", "Qstairs", "Qyard lamp", "Qyard door")
-        for number, label in enumerate(labels):
-            self.learn(f"01800A6{number}", "D5-00-01", label)
+        for label_number, label in enumerate(labels):
+            self.learn_device(f"01800A6{label_number}", "D5-00-01", label)
         self.addCleanup(browser.run, "localStorage.removeItem('enogate-grouping')")
         browser.type("#search", "q")
         browser.click("#devices-group")
-        wanted = ["Qattic (2)", *labels[:2], "Qyard (2)", labels[5], labels[4], "Other (2)", *labels[2:4]]
-        self.wait(self.headings_and_labels, lambda seen: seen == wanted, "the groups")
-        self.leave()
+        expected_headings = ["Qattic (2)", *labels[:2], "Qyard (2)", labels[5], labels[4], "Other (2)", *labels[2:4]]
+        self.wait(self.headings_and_labels, lambda headings: headings == expected_headings, "the groups")
+        self.leave_page()
         self.shoot("groups-by-word")
         browser.driver.refresh()
         browser.type("#search", "q")
-        self.wait(self.headings_and_labels, lambda seen: seen == wanted, "the groups after a reload")
+        self.wait(self.headings_and_labels, lambda headings: headings == expected_headings, "the groups after a reload")
         # Nothing moves while the pointer is on the list.
         ActionChains(browser.driver).move_to_element(browser.find(self.row("01800A60"))).perform()
         ctl("label", "01800A60", "Qcellar window")
         ctl("list")
         self.wait_for_text(self.row("01800A60"), "Qcellar window")
-        wanted[1] = "Qcellar window"
-        self.assertEqual(self.headings_and_labels(), ["Qattic (1)", *wanted[1:]])
-        self.leave()
-        self.wait(self.headings_and_labels, lambda seen: seen[:4] == ["Qattic (1)", "Qattic lamp", "Qcellar (1)",
+        expected_headings[1] = "Qcellar window"
+        self.assertEqual(self.headings_and_labels(), ["Qattic (1)", *expected_headings[1:]])
+        self.leave_page()
+        self.wait(self.headings_and_labels, lambda headings: headings[:4]
+                  == ["Qattic (1)", "Qattic lamp", "Qcellar (1)",
                                                                      "Qcellar window"], "the groups")
         browser.click("#devices-group")
-        self.wait(self.headings_and_labels, lambda seen: "(" not in str(seen), "no groups")
+        self.wait(self.headings_and_labels, lambda headings: "(" not in str(headings), "no groups")
 
     def headings_and_labels(self) -> list[str]:
         """The headings of the groups, and the labels of the devices."""
@@ -480,27 +483,27 @@ class ShownContents(PageTest):
         self.wait_for_text("#attention", "/var/log/enogate/roof.lines is missing", "The gateway roof is stopped")
 
     def test_a_link_or_a_pipe_in_place_of_the_lines_is_not_opened(self):
-        other, lines = work / "other", gateway.lines_path.with_name("yard.lines")
-        other.write_text('{"eep":"D5-00-01","id":"01800AE1","label":"","maker":null,"type":"device"}\n'
-                         '{"count":1,"type":"list"}\n')
+        other_path, lines = work / "other", gateway.lines_path.with_name("yard.lines")
+        other_path.write_text('{"eep":"D5-00-01","id":"01800AE1","label":"","maker":null,"type":"device"}\n'
+                              '{"count":1,"type":"list"}\n')
         self.addCleanup(lines.unlink, missing_ok=True)
         self.addCleanup(browser.run, FORGET_GATEWAY)
-        self.tab("devices")
-        for make, why in ((lambda: lines.symlink_to(other), "it is a symbolic link"),
-                          (lambda: os.mkfifo(lines), "it is not a regular file"),
-                          (lambda: other.rename(lines), "")):
-            with self.subTest(why):
+        self.open_tab("devices")
+        for make, reason in ((lambda: lines.symlink_to(other_path), "it is a symbolic link"),
+                             (lambda: os.mkfifo(lines), "it is not a regular file"),
+                             (lambda: other_path.rename(lines), "")):
+            with self.subTest(reason):
                 lines.unlink(missing_ok=True)
                 make()
                 browser.click("[data-gateway=hall]")
                 browser.click("[data-gateway=yard]")
-                if why:
-                    self.wait_for_text("#trouble", f"the lines /var/log/enogate/yard.lines cannot be read: {why}")
-                self.assertEqual(self.wait(lambda: self.ids("devices"), lambda ids: bool(ids) != bool(why)),
-                                 [] if why else ["01800AE1"])
+                if reason:
+                    self.wait_for_text("#trouble", f"the lines /var/log/enogate/yard.lines cannot be read: {reason}")
+                self.assertEqual(self.wait(lambda: self.ids("devices"), lambda ids: bool(ids) != bool(reason)),
+                                 [] if reason else ["01800AE1"])
 
     def test_packets_are_shown_filtered_and_paused(self):
-        self.tab("packets")
+        self.open_tab("packets")
         stick.bring("01800A04", PRESS, RELEASE)
         stick.bring("01800A05", CLOSED)
         self.wait_for_text("#packets-rows", "01800A04", "01800A05", "switch (RPS)", "50 30", "not learned")
@@ -516,36 +519,37 @@ class ShownContents(PageTest):
         self.wait_for_text("#packets-rows", "70 30")
 
     def test_lines_from_before_have_no_time_and_readings_outlast_a_rotation(self):
-        self.learn("01800A06", "D5-00-01")
+        self.learn_device("01800A06", "D5-00-01")
         stick.bring("01800A06", CLOSED)
         self.wait_for_text(self.row("01800A06"), "Contact closed")
         gateway.rotate()
         gateway.append(EARLIER_PACKET * 5000)
         self.open()
-        self.tab("devices")
+        self.open_tab("devices")
         self.wait_for_text(self.row("01800A06"), "Contact closed", "earlier")
-        self.tab("packets")
+        self.open_tab("packets")
         browser.type("#search", "01800A07")
         self.wait_for_text("#packets-rows", "01800A07")
-        times = "return [...document.querySelectorAll('#packets-rows td:first-child')].map(cell => cell.textContent)"
-        self.assertEqual(browser.run(times), ["earlier"] * 100)
+        times_script = ("return [...document.querySelectorAll('#packets-rows td:first-child')]"
+                        ".map(cell => cell.textContent)")
+        self.assertEqual(browser.run(times_script), ["earlier"] * 100)
         stick.bring("01800A07", PRESS)
-        self.wait(lambda: browser.run(times), lambda found: ":" in found[0] and found[1:] == ["earlier"] * 99)
+        self.wait(lambda: browser.run(times_script), lambda times: ":" in times[0] and times[1:] == ["earlier"] * 99)
 
     def test_everything_comes_from_this_host(self):
         script = "return performance.getEntriesByType('resource').map(entry => new URL(entry.name).host)"
         self.assertEqual(set(browser.run(script)), {f"127.0.0.1:{cockpit.port}"})
         policy = str(browser.driver.execute_async_script(GET_POLICY))
         self.assertIn("default-src 'self'", policy)
-        for more in ("*", "'unsafe-"):
-            self.assertNotIn(more, policy)
+        for forbidden_source in ("*", "'unsafe-"):
+            self.assertNotIn(forbidden_source, policy)
 
 
 class UserActions(PageTest):
     """What a user does by clicks."""
 
     def test_an_unknown_rocker_is_found_learned_and_labelled(self):
-        self.tab("add")
+        self.open_tab("add")
         stick.bring("01800B01", PRESS, RELEASE)
         self.wait_for_text(self.row("01800B01", "unknown"), "switch (RPS)", "2 ×", "-45 dBm", "not learned")
         self.shoot("unknown")
@@ -560,15 +564,15 @@ class UserActions(PageTest):
         self.wait_for_text("#learn-result", "Rocker BI, Button pressed")
         self.shoot("learn")
         browser.click("#learn-close")
-        self.leave()
+        self.leave_page()
         self.wait(lambda: self.ids("unknown"), lambda ids: "01800B01" not in ids)
-        self.tab("devices")
+        self.open_tab("devices")
         self.wait_for_text(self.row("01800B01"), 'Rocker "<b>"', "F6-02-01", "Rocker BI")
         self.assertIn({"eep": "F6-02-01", "id": "01800B01", "label": 'Rocker "<b>"', "maker": None, "type": "device"},
                       [json.loads(line) for line in ctl("list").splitlines()])
 
     def test_a_label_that_the_gateway_cannot_store_is_not_sent_but_spelled_in_another_way(self):
-        self.tab("add")
+        self.open_tab("add")
         stick.bring("01800B02", PRESS)
         self.wait_for_text(self.row("01800B02", "unknown"), "switch")
         browser.click(self.row("01800B02", "unknown") + " button")
@@ -599,7 +603,7 @@ class UserActions(PageTest):
         ctl("learn", "on")
         self.addCleanup(ctl, "learn", "off")
         stick.bring("01800B62", NO_PROFILE)
-        self.tab("add")
+        self.open_tab("add")
         row = "#teach-rows tr:first-child"
         self.wait_for_text(row, "01800B62", "profile not sent", "Learn …")
         browser.click(f"{row} button")
@@ -612,13 +616,13 @@ class UserActions(PageTest):
         browser.click("#learn-go")
         self.wait(lambda: ctl("list"), lambda text: '"id":"01800B62","label":"Cellar"' in text, "the label")
         browser.click("#learn-close")
-        self.leave()
+        self.leave_page()
         self.wait_for_text(self.result("01800B62"), "Cellar", "Label …")
 
     def test_no_result_moves_while_the_pointer_is_on_the_list(self):
         for device in ("01800B63", "01800B64"):
             ctl("add", device, "D5-00-01")
-        self.tab("add")
+        self.open_tab("add")
         self.wait_for_text(self.result("01800B64"), "learned")
         target = browser.find(self.result("01800B64") + " button")
         ActionChains(browser.driver).move_to_element(target).perform()
@@ -630,12 +634,12 @@ class UserActions(PageTest):
         ActionChains(browser.driver).click().perform()
         self.wait_for_text("#edit-id", "01800B64")
         browser.click("#edit-close")
-        self.leave()
+        self.leave_page()
         self.wait_for_text("#teach-rows tr:first-child", "01800B65")
 
     def test_the_label_of_a_packet_opens_its_device(self):
-        self.learn("01800B66", "D5-00-01", "Garage")
-        self.tab("packets")
+        self.learn_device("01800B66", "D5-00-01", "Garage")
+        self.open_tab("packets")
         for device in ("01800B66", "01800B67"):
             stick.bring(device, CLOSED)
         self.wait_for_text("#packets-rows", "01800B67", "Garage01800B66")
@@ -652,8 +656,8 @@ class UserActions(PageTest):
         browser.click("#learn-close")
 
     def test_a_learned_device_keeps_its_profile_unless_another_one_is_chosen(self):
-        self.learn("01800B6C", "D2-01-12", "Kept")
-        self.tab("add")
+        self.learn_device("01800B6C", "D2-01-12", "Kept")
+        self.open_tab("add")
         browser.click("#learn-by-id")
         profile = Select(browser.find("#learn-profile"))
         profile.select_by_value("F6-02-01")
@@ -670,12 +674,13 @@ class UserActions(PageTest):
 
     def test_a_profile_that_is_not_known_has_to_be_chosen(self):
         stick.bring("01800B6D", "A5 00000008")
-        self.tab("add")
+        self.open_tab("add")
         self.wait_for_text(self.row("01800B6D", "unknown"), "sensor (4BS)")
         browser.click(self.row("01800B6D", "unknown") + " button")
         profile = Select(browser.find("#learn-profile"))
-        first = profile.options[0]
-        self.assertEqual((first.text, first.is_enabled(), first.is_selected()), ("Choose the profile …", False, True))
+        first_option = profile.options[0]
+        self.assertEqual((first_option.text, first_option.is_enabled(), first_option.is_selected()),
+                         ("Choose the profile …", False, True))
         browser.click("#learn-go")
         message = browser.run("return document.querySelector('#learn-profile').validationMessage")
         self.assertEqual(message, "Choose the profile: the data sheet of the device names it.")
@@ -687,8 +692,8 @@ class UserActions(PageTest):
         self.assertIn('{"eep":"A5-02-05","id":"01800B6D"', ctl("list"))
 
     def test_a_label_that_another_device_has_is_warned_of_and_can_be_saved(self):
-        self.learn("01800B69", "D5-00-01", "Twin")
-        self.learn("01800B6A", "D5-00-01", "Other")
+        self.learn_device("01800B69", "D5-00-01", "Twin")
+        self.learn_device("01800B6A", "D5-00-01", "Other")
         browser.click(self.row("01800B6A") + " a")
         browser.click("#device-edit")
         warning = browser.find("#edit-label-error")
@@ -703,7 +708,7 @@ class UserActions(PageTest):
         self.assertEqual(ctl("list").count('"label":"Twin"'), 2)
 
     def test_a_backup_is_written_and_one_that_fails_is_explained(self):
-        self.learn("01800B6B", "D5-00-01", "Saved")
+        self.learn_device("01800B6B", "D5-00-01", "Saved")
         path = self.back_up()
         with tarfile.open(path) as archive:
             self.assertIn(b"01800B6B,D5-00-01,Saved", archive.extractfile("devices.csv").read())
@@ -716,7 +721,7 @@ class UserActions(PageTest):
         self.assertEqual(browser.text("#gateway-note"), "")
 
     def test_a_device_is_replaced_by_one_that_was_heard(self):
-        self.learn("01800B51", "D5-00-01", "Cellar door")
+        self.learn_device("01800B51", "D5-00-01", "Cellar door")
         for device in ("01800B52", "01800B53"):
             stick.bring(device, CLOSED)
         stick.bring("01800B54", PRESS)
@@ -724,7 +729,8 @@ class UserActions(PageTest):
         browser.click("#device-edit")
         browser.click("#edit-replace")
         ids = "return [...document.querySelectorAll('#edit-senders button')].map(one => one.firstChild.data)"
-        self.wait(lambda: browser.run(ids), lambda seen: seen[:2] == ["01800B53", "01800B52"], "the senders")
+        self.wait(lambda: browser.run(ids), lambda observation: observation[:2] == ["01800B53", "01800B52"],
+                  "the senders")
         self.assertNotIn("01800B54", browser.run(ids))
         self.shoot("replace")
         self.press("#edit-senders", browser.text("#edit-senders button:nth-child(2)"))
@@ -738,9 +744,9 @@ class UserActions(PageTest):
         self.wait_for_text("#device-label", "Cellar door")
         self.wait_for_text("#device-id", "01800B52")
         self.assertEqual(browser.run("return location.hash"), "#/device/01800B52")
-        listed = ctl("list")
-        self.assertIn('{"eep":"D5-00-01","id":"01800B52","label":"Cellar door"', listed)
-        self.assertNotIn("01800B51", listed)
+        list_lines = ctl("list")
+        self.assertIn('{"eep":"D5-00-01","id":"01800B52","label":"Cellar door"', list_lines)
+        self.assertNotIn("01800B51", list_lines)
         stick.bring("01800B52", OPEN)
         self.wait_for_text("#device-readings", "Contact open")
         # It is learned with another profile.
@@ -753,7 +759,7 @@ class UserActions(PageTest):
         self.assertTrue(browser.find("#edit").is_displayed())
 
     def test_a_device_is_renamed_and_removed(self):
-        self.learn("01800B05", "D5-00-01", "Old name")
+        self.learn_device("01800B05", "D5-00-01", "Old name")
         self.rename("01800B05", "New name")
         browser.click("#device-edit")
         browser.click("#edit-remove")
@@ -763,10 +769,10 @@ class UserActions(PageTest):
         self.assertNotIn("01800B05", ctl("list"))
 
     def test_a_profile_that_does_not_fit_is_pointed_out_and_changed(self):
-        self.learn("01800B6E", "A5-02-05", "Misfit")
+        self.learn_device("01800B6E", "A5-02-05", "Misfit")
         stick.bring("01800B6E", CLOSED)
         self.wait_for_text(self.row("01800B6E"), "s ago")
-        self.tab("overview")
+        self.open_tab("overview")
         self.wait_for_text("#attention", "The last telegram of Misfit does not fit its profile", "Choose another")
         self.shoot("misfit")
         browser.click("#attention [href$='01800B6E']")
@@ -782,11 +788,11 @@ class UserActions(PageTest):
         self.assertIn('{"eep":"D5-00-01","id":"01800B6E","label":"Misfit"', ctl("list"))
         stick.bring("01800B6E", OPEN)
         self.wait_for_text("#device-readings", "Contact open")
-        self.tab("overview")
+        self.open_tab("overview")
         self.wait_for_no_text("#attention", "Misfit")
 
     def test_the_learn_window_opens_counts_down_and_closes(self):
-        self.tab("add")
+        self.open_tab("add")
         browser.click("label:has(#teach-answer)")
         browser.click("#teach-open")
         self.wait(lambda: browser.text("#teach-left"), re.compile("1:[0-5][0-9]").fullmatch, "the countdown")
@@ -801,7 +807,7 @@ class UserActions(PageTest):
         self.assertFalse(browser.find("#problem").is_displayed(), browser.text("#problem"))
 
     def test_a_learn_window_for_one_device_says_that_it_was_learned(self):
-        self.tab("add")
+        self.open_tab("add")
         browser.click("label:has(#teach-as)")
         browser.click("#teach-open")
         self.wait_for_text("#teach-mode", "F6-02-01")
@@ -811,32 +817,35 @@ class UserActions(PageTest):
         self.shoot("learned")
 
     def test_the_learn_window_is_closed_when_the_page_is_left(self):
-        self.tab("add")
+        self.open_tab("add")
         browser.click("#teach-open")
         self.wait_for_text("#window", "Learn window open")
-        self.wait(lambda: self.running("--serve"), lambda found: len(found) == 2, "the processes for orders")
+        self.wait(lambda: self.running("--serve"), lambda observation: len(observation) == 2,
+                  "the processes for orders")
         browser.open("about:blank")
         self.wait(lambda: json.loads(ctl("status"))["mode"], lambda mode: mode == "closed", "the learn window")
-        self.wait(self.running, lambda found: not found, "the processes of the page")
+        self.wait(self.running, lambda observation: not observation, "the processes of the page")
 
     def test_one_process_gives_the_orders_and_is_started_again_if_it_was_killed(self):
-        self.learn("01800B07", "D5-00-01", "One")
-        [server] = self.wait(lambda: self.running("--serve"), lambda found: len(found) == 1, "the process")
+        self.learn_device("01800B07", "D5-00-01", "One")
+        [server] = self.wait(lambda: self.running("--serve"), lambda observation: len(observation) == 1, "the process")
         self.rename("01800B07", "Two")
-        self.tab("add")
+        self.open_tab("add")
         browser.click("#teach-open")
         self.wait_for_text("#window", "Learn window open")
-        [window] = self.wait(lambda: self.running("--serve") - {server}, lambda found: len(found) == 1, "the window")
+        [window] = self.wait(lambda: self.running("--serve") - {server}, lambda observation: len(observation) == 1,
+                             "the window")
         os.kill(server, signal.SIGKILL)
         self.wait_for_text("#problem-text", "enogatectl has ended, and may not have carried out the order")
         os.kill(window, signal.SIGTERM)
         self.wait_until_hidden("#window")
         self.rename("01800B07", "Three")
-        self.wait(lambda: self.running("--serve"), lambda found: len(found - {server, window}) == 1, "another process")
+        self.wait(lambda: self.running("--serve"), lambda observation: len(observation - {server, window}) == 1,
+                  "another process")
 
     def rename(self, device: str, label: str) -> None:
         """Changes the label of a device, in its view."""
-        self.tab("devices")
+        self.open_tab("devices")
         browser.click(self.row(device) + " a")
         browser.click("#device-edit")
         browser.type("#edit-label", label)
@@ -845,40 +854,40 @@ class UserActions(PageTest):
 
     def test_actuators_are_switched_dimmed_and_moved(self):
         for device, eep in (("01800B11", "D2-01-12"), ("01800B12", "D2-01-02"), ("01800B13", "D2-05-00")):
-            self.learn(device, eep)
+            self.learn_device(device, eep)
         channel = Select(browser.find(self.row("01800B11") + " select"))
         channel.select_by_visible_text("ch 1")
-        self.act("01800B11", "On", "D2010164")
-        self.act("01800B11", "Off", "D2010100")
+        self.act_and_wait_for_packet("01800B11", "On", "D2010164")
+        self.act_and_wait_for_packet("01800B11", "Off", "D2010100")
         self.slide(self.row("01800B12") + " input", 30, "D201001E")
         for name, payload in (("▲", "D2007F0001"), ("▼", "D2647F0001"), ("■", "D202")):
-            self.act("01800B13", name, payload)
+            self.act_and_wait_for_packet("01800B13", name, payload)
         stick.bring("01800B13", "D2 327F0004")
         self.wait_for_text(self.row("01800B13"), "Position 50 %")
         self.go("#/device/01800B13")
         self.slide("#device-act input", 75, "D24B7F0001")
         self.shoot("actuator")
 
-    def act(self, device: str, name: str, payload: str) -> None:
+    def act_and_wait_for_packet(self, device: str, name: str, payload: str) -> None:
         """Presses a button of an actuator. The stick sends this telegram to it."""
-        before = len(stick.sent())
+        size_before = len(stick.sent())
         self.press(self.row(device), name)
-        self.wait_for_sent(before, f"{payload}FF800000000301800B")
+        self.wait_for_sent(size_before, f"{payload}FF800000000301800B")
         self.wait_for_text(self.row(device), "sent …")
 
     def slide(self, selector: str, percent: int, payload: str) -> None:
         """Moves a slider, and releases it. The stick sends this telegram."""
-        before = len(stick.sent())
+        size_before = len(stick.sent())
         script = "const [slider, value] = arguments; slider.value = value; slider.dispatchEvent(new Event('change'));"
         browser.run(script, browser.find(selector), percent)
-        self.wait_for_sent(before, f"{payload}FF800000")
+        self.wait_for_sent(size_before, f"{payload}FF800000")
 
-    def wait_for_sent(self, before: int, digits: str) -> None:
-        self.wait(lambda: stick.sent()[before:], lambda seen: digits.lower() in seen, digits)
+    def wait_for_sent(self, size_before: int, digits: str) -> None:
+        self.wait(lambda: stick.sent()[size_before:], lambda observation: digits.lower() in observation, digits)
 
     def test_an_actuator_that_answers_and_one_that_does_not(self):
         for device, label in (("01800B31", "obeys"), ("01800B32", "is deaf")):
-            self.learn(device, "D2-01-12", label)
+            self.learn_device(device, "D2-01-12", label)
         for device in ("01800B31", "01800B32"):
             self.press(self.row(device), "On")
             self.wait_for_text(self.row(device), "sent …")
@@ -894,7 +903,7 @@ class UserActions(PageTest):
         self.shoot("no-answer")
         browser.click("#device-act a")
         self.wait(lambda: browser.find("#teach-open").is_displayed(), bool, "the learn window")
-        self.tab("overview")
+        self.open_tab("overview")
         self.wait_for_text("#attention", "is deaf did not answer an order")
         self.assertNotIn("obeys", browser.text("#attention"))
         self.shoot("attention")
@@ -903,7 +912,7 @@ class UserActions(PageTest):
         self.wait_for_text("#device-act", "no answer")
 
     def test_a_device_has_a_view_with_its_readings_packets_and_orders(self):
-        self.learn("01800B33", "D2-01-12", "Pump")
+        self.learn_device("01800B33", "D2-01-12", "Pump")
         browser.click(self.row("01800B33") + " a")
         for payload in ("046064", "046000", "0760000007D0"):
             stick.bring("01800B33", f"D2 {payload}")
@@ -913,9 +922,9 @@ class UserActions(PageTest):
         self.wait_for_text("#device .facts", "01800B33", "D2-01-12 Electronic switch, 2 channels", "-45 dBm", "s ago")
         for name, payload in (("Ask for its state", "D20300"), ("Ask for its energy", "D20600"),
                               ("Ask for its power", "D20680")):
-            before = len(stick.sent())
+            size_before = len(stick.sent())
             self.press("#device-act", name)
-            self.wait_for_sent(before, f"{payload}FF800000000301800B33")
+            self.wait_for_sent(size_before, f"{payload}FF800000000301800B33")
         self.shoot("device")
 
     def test_groups_are_switched_dimmed_and_taught(self):
@@ -924,34 +933,34 @@ class UserActions(PageTest):
         browser.type("#groups-number", "5")
         for name, payload in (("on", "A501000009FF800005"), ("off", "A501000008FF800005"),
                               ("level", "A50232000DFF800005"), ("teach", "A5E047FF80FF800005")):
-            before = len(stick.sent())
+            size_before = len(stick.sent())
             self.wait(lambda name=name: browser.find(f"#groups-{name}").is_enabled(), bool, name)
             browser.click(f"#groups-{name}")
-            self.wait_for_sent(before, payload)
+            self.wait_for_sent(size_before, payload)
             self.wait_for_text("#groups-result", "Sent at")
         browser.type("#groups-number", "128")
-        before = len(stick.sent())
+        size_before = len(stick.sent())
         browser.click("#groups-on")
         time.sleep(0.3)
-        self.assertEqual(stick.sent()[before:], "")
+        self.assertEqual(stick.sent()[size_before:], "")
         self.shoot("groups")
 
     def test_the_devices_are_asked_for_after_a_telegram_was_learned(self):
         """The device may have had a label."""
-        self.tab("devices")
+        self.open_tab("devices")
         self.wait(lambda: browser.text("#devices-note"), lambda text: "last list" not in text, "the first list")
-        before = self.lists()
+        list_count = self.list_count()
         ctl("learn", "on")
         stick.bring("01800B06", "D5 00")
-        self.wait(self.lists, lambda count: count == before + 1, "the lists")
+        self.wait(self.list_count, lambda count: count == list_count + 1, "the lists")
         ctl("learn", "off")
 
-    def lists(self) -> int:
+    def list_count(self) -> int:
         """How many lists were asked for."""
         return gateway.desk.read_text().splitlines().count("list")
 
     def test_an_order_that_is_refused_is_explained(self):
-        self.learn("01800B21", "D2-01-12")
+        self.learn_device("01800B21", "D2-01-12")
         # The device is deleted by another program. Its row stays while the pointer is on it.
         ActionChains(browser.driver).move_to_element(browser.find(self.row("01800B21") + " button")).perform()
         ctl("remove", "01800B21")
@@ -959,7 +968,7 @@ class UserActions(PageTest):
         self.wait_for_text(self.row("01800B21"), "unknown_device: no device with this ID is learned")
 
     def test_a_view_has_an_address_that_outlasts_a_reload(self):
-        self.learn("01800B41", "D5-00-01", "Gate")
+        self.learn_device("01800B41", "D5-00-01", "Gate")
         browser.click("#devices-states [data-state=weak]")
         self.wait(lambda: self.ids("devices"), lambda ids: ids == [], "the weak devices")
         self.go("#/device/01800B41")
@@ -982,7 +991,8 @@ class UserActions(PageTest):
             # Cockpit stores the choice in another frame.
             browser.run("const frame = document.body.appendChild(document.createElement('iframe'));"
                         "frame.contentWindow.localStorage.setItem('shell:style', arguments[0]); frame.remove();", style)
-            self.wait(lambda: browser.run(ground), lambda seen, wanted=colour: seen == wanted, style)
+            self.wait(lambda: browser.run(ground), lambda observation, expected_colour=colour: observation
+                      == expected_colour, style)
 
 
 class GatewaySetUp(PageTest):
@@ -1021,7 +1031,7 @@ class GatewaySetUp(PageTest):
         self.addCleanup(show)
         browser.driver.refresh()
 
-    def fill(self, name: str, port: object) -> None:
+    def fill_form(self, name: str, port: object) -> None:
         self.wait(lambda: browser.find("#setup-go").is_enabled(), bool, "the ports")
         browser.type("#setup-name", name)
         Select(browser.find("#setup-port")).select_by_value(str(port))
@@ -1038,38 +1048,38 @@ class GatewaySetUp(PageTest):
         ports = [option.get_attribute("value") for option in Select(browser.find("#setup-port")).options]
         self.assertEqual([port for port in ports if port in (str(self.port), "/dev/ttyUSB7")],
                          [str(self.port), "/dev/ttyUSB7"])
-        self.fill("cellar", "/dev/ttyUSB7")
+        self.fill_form("cellar", "/dev/ttyUSB7")
         browser.click("#setup-look")
         self.wait_for_text("#setup-result", "/dev/ttyUSB7 is not a serial port")
-        self.fill("cellar", self.port)
+        self.fill_form("cellar", self.port)
         browser.click("#setup-look")
         self.wait_for_text("#setup-result", "Its base ID is FF800000.")
         self.shoot("set-up")
-        before = len(self.machine.orders())
+        orders_before = len(self.machine.orders())
         browser.click("#setup-go")
         self.wait_for_text("#gateways [aria-selected=true]", "cellar")
         self.wait_until_hidden("#setup")
-        self.assertEqual(self.machine.orders()[before:], ["enable --now enogate@cellar.service"])
+        self.assertEqual(self.machine.orders()[orders_before:], ["enable --now enogate@cellar.service"])
         settings = pathlib.Path("/etc/default/enogate-cellar")
         self.assertEqual((settings.read_text(), oct(settings.stat().st_mode)), (f"SERIAL={self.port}\n", "0o100644"))
         self.assertTrue(browser.find("main").is_displayed())
         self.wait_for_text("#gateway-stick", f"plugged in ({self.port})")
 
     def test_another_gateway_is_set_up_but_none_twice(self):
-        other = pathlib.Path("/etc/default/enogate-cellar")
+        other_settings = pathlib.Path("/etc/default/enogate-cellar")
         browser.click("#gateway-setup")
-        self.fill("hall", self.port)
+        self.fill_form("hall", self.port)
         browser.click("#setup-go")
-        other.write_text("SERIAL=/dev/null\n")
-        self.fill("cellar", self.port)
-        before = self.machine.orders()
+        other_settings.write_text("SERIAL=/dev/null\n")
+        self.fill_form("cellar", self.port)
+        orders_before = self.machine.orders()
         browser.click("#setup-go")
         self.wait_for_text("#setup-result", "There is a gateway with this name already")
-        self.assertEqual((other.read_text(), self.machine.orders()), ("SERIAL=/dev/null\n", before))
-        other.unlink()
+        self.assertEqual((other_settings.read_text(), self.machine.orders()), ("SERIAL=/dev/null\n", orders_before))
+        other_settings.unlink()
         browser.click("#setup-go")
         self.wait_for_text("#gateways [aria-selected=true]", "cellar")
-        self.assertEqual(other.read_text(), f"SERIAL={self.port}\n")
+        self.assertEqual(other_settings.read_text(), f"SERIAL={self.port}\n")
 
 
 class PageOnPhone(PageTest):
@@ -1082,10 +1092,10 @@ class PageOnPhone(PageTest):
 
     def learn_some(self) -> None:
         """Learns a device of each kind, with the widest label and readings."""
-        for number, (eep, packet) in enumerate(KINDS.items()):
-            ctl("add", f"01800F0{number}", eep)
-            ctl("label", f"01800F0{number}", "W" * 32)
-            stick.bring(f"01800F0{number}", packet)
+        for device_number, (eep, packet) in enumerate(KINDS.items()):
+            ctl("add", f"01800F0{device_number}", eep)
+            ctl("label", f"01800F0{device_number}", "W" * 32)
+            stick.bring(f"01800F0{device_number}", packet)
         stick.bring("01800F10", PRESS)
         stick.bring("01800F11", "D5 00")
         ctl("list")
@@ -1094,27 +1104,29 @@ class PageOnPhone(PageTest):
         self.learn_some()
         self.check_places("phone")
 
-    def check_places(self, picture: str) -> None:
+    def check_places(self, screenshot_name: str) -> None:
         """Checks the targets of all views."""
-        places = [*SECTIONS, "groups", "devices/silent", *(f"device/01800F0{number}" for number in range(len(KINDS)))]
-        for place in places:
-            with self.subTest(place=place):
-                self.go(f"#/{place}")
-                self.wait_for_some_target(place)
+        places = [*SECTIONS, "groups", "devices/silent",
+                  *(f"device/01800F0{device_number}" for device_number in range(len(KINDS)))]
+        for view_address in places:
+            with self.subTest(place=view_address):
+                self.go(f"#/{view_address}")
+                self.wait_for_some_target(view_address)
                 self.assertEqual(browser.run(FIND_UNFIT_ELEMENTS, *PHONE), [])
-                self.shoot(f"{picture}-{place.replace('/', '-')}")
+                self.shoot(f"{screenshot_name}-{view_address.replace('/', '-')}")
 
     def test_the_cards_of_devices_can_be_grouped(self):
         self.learn_some()
-        for number, label in enumerate(("Kitchen window", "Kitchen lamp", "2.14 Window", "Gate", "")):
-            ctl("label", f"01800F0{number}", label) if label else ctl("label", f"01800F0{number}")
+        for device_number, label in enumerate(("Kitchen window", "Kitchen lamp", "2.14 Window", "Gate", "")):
+            ctl("label", f"01800F0{device_number}", label) if label else ctl("label", f"01800F0{device_number}")
         ctl("list")
         self.addCleanup(browser.run, "localStorage.removeItem('enogate-grouping')")
-        self.tab("devices")
+        self.open_tab("devices")
         browser.click("label.check")
         browser.type("#search", "01800F0")
         titles = "return [...document.querySelectorAll('#devices-rows th')].map(cell => cell.textContent)"
-        self.wait(lambda: browser.run(titles), lambda seen: seen[:2] == ["2.14 (1)", "Kitchen (2)"], "the groups")
+        self.wait(lambda: browser.run(titles), lambda observation: observation[:2] == ["2.14 (1)", "Kitchen (2)"],
+                  "the groups")
         self.assertEqual(browser.run(FIND_UNFIT_ELEMENTS, *PHONE), [])
         self.shoot("phone-groups-by-word")
 
@@ -1133,8 +1145,8 @@ class PageOnPhone(PageTest):
         """Lets devices be learned, one with the widest label, and refused."""
         ctl("learn", "on")
         self.addCleanup(ctl, "learn", "off")
-        for number in range(3):
-            stick.bring(f"01800F2{number}", "D5 00")
+        for device_number in range(3):
+            stick.bring(f"01800F2{device_number}", "D5 00")
         ctl("add", "01800F26", "A5-09-04")
         ctl("label", "01800F26", "W" * 32)
         ctl("list")
@@ -1142,22 +1154,22 @@ class PageOnPhone(PageTest):
         # Its profile is A5-3F-01.
         stick.bring("01800F24", "A5 FC080B80")
 
-    def check_results(self, picture: str) -> None:
+    def check_results(self, screenshot_name: str) -> None:
         """Three results are shown at once, and no part of them is cut off."""
-        self.tab("add")
+        self.open_tab("add")
         self.wait_for_text("#teach-rows", "01800F20", "01800F23", "01800F24", "W" * 32)
         self.assertEqual(browser.run(FIND_CUT_RESULTS), [])
         self.assertEqual(browser.run(COUNT_VISIBLE_RESULTS), 3)
         self.assertEqual(browser.run(FIND_UNFIT_ELEMENTS, *PHONE), [])
         browser.run("document.querySelector('.short').scrollTo(0, 0)")
-        self.shoot(picture)
+        self.shoot(screenshot_name)
 
     def test_a_device_is_labelled_at_its_result_learned_by_its_id_and_opened_from_its_packet(self):
         ctl("add", "01800F41", "D5-00-01")
         self.label_at_result("01800F41", "Phone result")
         self.learn_by_id("01800F42", "Phone ID")
         stick.bring("01800F42", CLOSED)
-        self.tab("packets")
+        self.open_tab("packets")
         row = "#packets-rows tr:has([href$=F42])"
         self.wait_for_text(row, "Phone ID", "Contact closed")
         self.open_by_label(row, "01800F42", "Phone ID")
@@ -1170,37 +1182,40 @@ class PageOnPhone(PageTest):
         self.assertEqual(browser.run(script, path + "x" * 200), PHONE[0])
         self.shoot("phone-backup")
 
-    def wait_for_some_target(self, place: str) -> None:
+    def wait_for_some_target(self, view_address: str) -> None:
         """Waits until the view is shown with its rows."""
-        selector = f"#{place.partition('/')[0]}"
-        self.wait(lambda: browser.find(selector).is_displayed(), bool, place)
-        wanted = {"devices": "[data-id='01800F00']", "add": "[data-id='01800F10']", "packets": "tr"}.get(place)
-        if wanted:
-            self.wait(lambda: browser.find(f"{selector} {wanted}").is_displayed(), bool, f"{place} {wanted}")
+        selector = f"#{view_address.partition('/')[0]}"
+        self.wait(lambda: browser.find(selector).is_displayed(), bool, view_address)
+        target_selector = {"devices": "[data-id='01800F00']", "add": "[data-id='01800F10']",
+                           "packets": "tr"}.get(view_address)
+        if target_selector:
+            self.wait(lambda: browser.find(f"{selector} {target_selector}").is_displayed(), bool,
+                      f"{view_address} {target_selector}")
 
     def test_the_targets_of_a_gateway_in_trouble_and_of_dialogs_are_large_enough(self):
         self.learn_some()
         self.machine.set_state("hall", "inactive", "dead")
         self.addCleanup(self.machine.set_state, "hall", "active", "running")
-        for place in ("overview", "devices"):
-            self.go(f"#/{place}")
-            self.wait_for_text("#attention" if place == "overview" else "#trouble", "The gateway hall is stopped")
-            self.assertEqual(browser.run(FIND_UNFIT_ELEMENTS, *PHONE), [], place)
-            self.shoot(f"phone-stopped-{place}")
+        for view_address in ("overview", "devices"):
+            self.go(f"#/{view_address}")
+            self.wait_for_text("#attention" if view_address == "overview" else "#trouble",
+                               "The gateway hall is stopped")
+            self.assertEqual(browser.run(FIND_UNFIT_ELEMENTS, *PHONE), [], view_address)
+            self.shoot(f"phone-stopped-{view_address}")
         self.check_dialogs("phone")
 
-    def check_dialogs(self, picture: str) -> None:
+    def check_dialogs(self, screenshot_name: str) -> None:
         """Checks the targets of all dialogs."""
-        for place, button, more in (("device/01800F00", "#device-edit", "remove"),
-                                    ("device/01800F04", "#device-edit", "replace"),
-                                    ("add", self.row("01800F10", "unknown") + " button", "label"),
-                                    ("add", "#learn-by-id", "id"), ("overview", "#gateway-setup", "")):
-            self.go(f"#/{place}")
-            self.wait(lambda wanted=button: browser.find(wanted).is_displayed(), bool, button)
+        for view_address, button, dialog_name in (("device/01800F00", "#device-edit", "remove"),
+                                                  ("device/01800F04", "#device-edit", "replace"),
+                                                  ("add", self.row("01800F10", "unknown") + " button", "label"),
+                                                  ("add", "#learn-by-id", "id"), ("overview", "#gateway-setup", "")):
+            self.go(f"#/{view_address}")
+            self.wait(lambda button_selector=button: browser.find(button_selector).is_displayed(), bool, button)
             browser.click(button)
-            self.open_part(more)
+            self.open_part(dialog_name)
             self.assertEqual(browser.run(FIND_UNFIT_ELEMENTS, *PHONE), [], button)
-            self.shoot(f"{picture}-dialog-{place.partition('/')[0]}-{more}")
+            self.shoot(f"{screenshot_name}-dialog-{view_address.partition('/')[0]}-{dialog_name}")
             browser.run("document.querySelector('dialog[open]').close()")
 
     def test_every_target_is_large_enough_in_german(self):
@@ -1231,19 +1246,20 @@ class PageOnPhone(PageTest):
     def test_the_buttons_of_a_card_can_be_clicked(self):
         """A click fails if something else is at its place."""
         self.learn_some()
-        self.tab("devices")
+        self.open_tab("devices")
         for device, name, payload in (("01800F00", "On", "D2010064"), ("01800F00", "Off", "D2010000"),
                                       ("01800F02", "▲", "D2007F0001"), ("01800F02", "■", "D202")):
-            before = len(stick.sent())
+            size_before = len(stick.sent())
             self.wait(lambda: browser.find(self.row("01800F00") + " button").is_enabled(), bool, "the buttons")
             self.press(self.row(device), name)
-            wanted = f"{payload}FF8000000003{device}".lower()
-            self.wait(lambda: stick.sent()[before:], lambda seen, digits=wanted: digits in seen, name)
+            expected_packet = f"{payload}FF8000000003{device}".lower()
+            self.wait(lambda: stick.sent()[size_before:],
+                      lambda observation, digits=expected_packet: digits in observation, name)
         browser.click(self.row("01800F01") + " a")
         self.wait_for_text("#device-id", "01800F01")
         browser.click(".back a")
         for name in reversed(SECTIONS):
-            self.tab(name)
+            self.open_tab(name)
         browser.click("#overview a[href='#/devices/heard']")
         self.wait(lambda: browser.find("#devices").is_displayed(), bool, "the devices that were heard")
 
@@ -1263,8 +1279,8 @@ class GermanPage(PageTest):
         self.assertEqual((browser.driver.title, browser.run("return document.documentElement.lang")),
                          ("EnOcean-Gateway", "de"))
         self.assertEqual(browser.find("#search").get_attribute("placeholder"), "Name, ID oder Profil")
-        self.learn("01800E01", "A5-02-05", "Flur")
-        self.learn("01800E02", "D5-00-01", "Tuer")
+        self.learn_device("01800E01", "A5-02-05", "Flur")
+        self.learn_device("01800E02", "D5-00-01", "Tuer")
         for payload in ("00007F08", "00006008"):
             stick.bring("01800E01", f"A5 {payload}")
         stick.bring("01800E02", OPEN)
@@ -1277,12 +1293,12 @@ class GermanPage(PageTest):
         browser.click("#device-edit")
         self.wait_for_text("#edit", "Gerät", "Bezeichnung", "Speichern", "Ersetzen …", "Schließen")
         browser.click("#edit-close")
-        self.tab("overview")
+        self.open_tab("overview")
         self.wait_for_text("#verdict-text", "empfangen")
         self.assertRegex(browser.text("#verdict-title"), "Alles in Ordnung|Kein Fehler bekannt|Aufmerksamkeit")
         self.shoot("german-overview")
         for name in ("add", "packets"):
-            self.tab(name)
+            self.open_tab(name)
             self.shoot(f"german-{name}")
 
     def test_the_german_button_of_a_problem_helps(self):
@@ -1290,12 +1306,12 @@ class GermanPage(PageTest):
         self.addCleanup(self.machine.set_state, "hall", "active", "running")
         self.wait_for_text("#attention", "Das Gateway hall ist angehalten", "Starten")
         self.shoot("german-attention")
-        self.tab("devices")
+        self.open_tab("devices")
         self.wait_for_text("#trouble-help", "Starten")
-        before = len(self.machine.orders())
+        order_count = len(self.machine.orders())
         browser.click("#trouble-help")
         self.wait_until_hidden("#trouble")
-        self.assertEqual(self.machine.orders()[before:], ["start enogate@hall.service"])
+        self.assertEqual(self.machine.orders()[order_count:], ["start enogate@hall.service"])
 
     def test_the_language_that_the_user_has_chosen_in_cockpit_comes_first(self):
         self.addCleanup(browser.driver.delete_cookie, "CockpitLang")
@@ -1318,22 +1334,22 @@ class LoadAndHostileText(PageTest):
     """What the page must withstand."""
 
     def test_hostile_texts_stay_texts_and_hostile_lines_stop_nothing(self):
-        self.learn("01800C01", "D5-00-01", '<img src=x onerror="alert(1)">')
+        self.learn_device("01800C01", "D5-00-01", '<img src=x onerror="alert(1)">')
         self.wait_for_text(self.row("01800C01"), '<img src=x onerror="alert(1)">')
         gateway.append("".join(f"{line}\n" for line in HOSTILE))
         stick.bring("01800C01", CLOSED)
         self.wait_for_text(self.row("01800C01"), "Contact closed")
         for name in SECTIONS:
             with self.subTest(section=name):
-                self.tab(name)
+                self.open_tab(name)
                 time.sleep(0.3)
-                found = browser.run("return document.querySelectorAll(arguments[0]).length", MARKUP)
-                self.assertEqual((found, browser.driver.title), (0, "EnOcean gateway"))
+                markup_count = browser.run("return document.querySelectorAll(arguments[0]).length", MARKUP)
+                self.assertEqual((markup_count, browser.driver.title), (0, "EnOcean gateway"))
                 for text in ("__proto__", "constructor", "onload", "document.title"):
                     self.assertNotIn(text, browser.find("main").text)
 
     def test_rotation_a_stopped_gateway_and_a_restart_need_no_reload(self):
-        self.learn("01800C11", "D5-00-01")
+        self.learn_device("01800C11", "D5-00-01")
         browser.run("window.isSame = true")
         gateway.rotate()
         stick.bring("01800C11", OPEN)
@@ -1343,10 +1359,10 @@ class LoadAndHostileText(PageTest):
         self.wait_for_text("#trouble", "The gateway hall is stopped")
         self.wait_for_text("#feed", "waiting")
         gateway.start(stick, "--explain")
-        before = len(self.machine.orders())
+        count_before = len(self.machine.orders())
         browser.click("#trouble-help")
         self.wait_until_hidden("#trouble")
-        self.assertEqual(self.machine.orders()[before:], ["start enogate@hall.service"])
+        self.assertEqual(self.machine.orders()[count_before:], ["start enogate@hall.service"])
         ctl("--timeout", "20", "status")
         stick.bring("01800C11", CLOSED)
         self.wait_for_text(self.row("01800C11"), "Contact closed")
@@ -1364,7 +1380,7 @@ class LoadAndHostileText(PageTest):
         self.wait_for_text("#feed", "live")
 
     def test_an_unplugged_stick_is_shown_and_plugged_in_again(self):
-        self.learn("01800C12", "D5-00-01")
+        self.learn_device("01800C12", "D5-00-01")
         stick.end()
         self.wait_for_text("#trouble", f"No stick at {stick.path}. Plug it in.")
         gateway.end()
@@ -1387,54 +1403,55 @@ class LoadAndHostileText(PageTest):
         self.open()
 
     def test_a_click_means_the_row_under_the_pointer(self):
-        self.tab("add")
-        for number in range(5):
-            stick.bring(f"01800C2{number}", PRESS)
+        self.open_tab("add")
+        for click_number in range(5):
+            stick.bring(f"01800C2{click_number}", PRESS)
         self.wait_for_text(self.row("01800C24", "unknown"), "switch")
         target = browser.find(self.row("01800C22", "unknown") + " button")
         ActionChains(browser.driver).move_to_element(target).perform()
         time.sleep(0.5)
-        before = self.ids("unknown")
-        for number in range(5, 10):
-            stick.bring(f"01800C2{number}", PRESS)
+        ids_before = self.ids("unknown")
+        for click_number in range(5, 10):
+            stick.bring(f"01800C2{click_number}", PRESS)
         stick.bring("01800C20", PRESS)
         self.wait_for_text(self.row("01800C20", "unknown") + " .count", "2 ×")
-        self.assertEqual(self.ids("unknown"), before)
+        self.assertEqual(self.ids("unknown"), ids_before)
         ActionChains(browser.driver).click().perform()
         self.wait_for_text("#learn-id", "01800C22")
         browser.click("#learn-close")
-        self.leave()
-        self.wait(lambda: self.ids("unknown")[0], lambda first: first == "01800C20", "the first row")
+        self.leave_page()
+        self.wait(lambda: self.ids("unknown")[0], lambda first_number: first_number == "01800C20", "the first row")
 
     def test_ten_thousand_unknown_senders(self):
-        self.tab("add")
+        self.open_tab("add")
         browser.run(WATCH_REPAINTS, "#unknown-rows")
-        for first in range(0, 10000, 100):
-            stick.bring_packet(b"".join(telegram_packet(0xF6, b"\x50", 0x02000000 + number, 0x30)
-                                        for number in range(first, first + 100)))
-            if first % 1000 == 900:
+        for first_number in range(0, 10000, 100):
+            stick.bring_packet(b"".join(telegram_packet(0xF6, b"\x50", 0x02000000 + click_number, 0x30)
+                                        for click_number in range(first_number, first_number + 100)))
+            if first_number % 1000 == 900:
                 # What a poll returns remains in the heap of the page, so this asks for one sender only.
-                last = f"{0x02000000 + first + 99:08X}"
+                last_sender = f"{0x02000000 + first_number + 99:08X}"
                 script = "return document.querySelector('#unknown-rows tr')?.dataset.id"
-                self.wait(lambda: browser.run(script), lambda seen, wanted=last: seen == wanted, last)
+                self.wait(lambda: browser.run(script), lambda observation, expected_sender=last_sender: observation
+                          == expected_sender, last_sender)
         repaints = browser.run("return 1000 * window.repaints / (performance.now() - window.watched)")
         self.wait_for_text("#unknown-note", "There were more than 500 senders; only the last 500 are kept.")
         self.assertEqual(len(self.ids("unknown")), 100)
         browser.run(WATCH_CLICKS)
         probe = min(browser.run(SPEED_PROBE) for _ in range(ROUNDS))
-        limit = 1000 * MAX_CLICK_SECONDS * max(1.0, probe / PROBE_MS)
+        max_milliseconds = 1000 * MAX_CLICK_SECONDS * max(1.0, probe / PROBE_MS)
         # A machine that is busy with something else may hold up a click, but not in each round.
-        longest = 1000.0
+        longest_click = 1000.0
         for _ in range(ROUNDS):
-            longest = min(longest, self.longest_click_in_a_flood())
-            if longest < limit:
+            longest_click = min(longest_click, self.longest_click_in_a_flood())
+            if longest_click < max_milliseconds:
                 break
-        self.tab("add")
+        self.open_tab("add")
         heap = browser.heap()
-        print(f"the longest click {longest:.0f} ms (limit {limit:.0f}, probe {probe:.0f}); heap {heap / 1e6:.1f} MB; "
-              f"{repaints:.1f} repaints a second")
+        print(f"the longest click {longest_click:.0f} ms (limit {max_milliseconds:.0f}, probe {probe:.0f}); heap "
+              f"{heap / 1e6:.1f} MB; {repaints:.1f} repaints a second")
         self.assertLess(repaints, MAX_REPAINTS_PER_SECOND)
-        self.assertLess(longest, limit)
+        self.assertLess(longest_click, max_milliseconds)
         self.assertLess(heap, MAX_HEAP_BYTES)
         self.shoot("many")
 
@@ -1442,15 +1459,15 @@ class LoadAndHostileText(PageTest):
         """Clicks on tabs for six seconds, while 200 packets arrive in each. Returns the longest time in ms that the
         page took to show the effect of a click."""
         browser.run("window.clicks = []")
-        end = time.monotonic() + 6
-        number = 0
+        deadline = time.monotonic() + 6
+        click_number = 0
         sections = ("add", "packets", "devices", "overview")
-        while time.monotonic() < end:
-            stick.bring_packet(b"".join(telegram_packet(0xF6, b"\x70", 0x02000000 + (number + step) % 10000, 0x30)
+        while time.monotonic() < deadline:
+            stick.bring_packet(b"".join(telegram_packet(0xF6, b"\x70", 0x02000000 + (click_number + step) % 10000, 0x30)
                                         for step in range(40)))
-            number += 40
-            browser.click(f"#tab-{sections[number // 40 % len(sections)]}")
-            time.sleep(max(0.0, 0.2 - (time.monotonic() - (end - 6)) % 0.2))
+            click_number += 40
+            browser.click(f"#tab-{sections[click_number // 40 % len(sections)]}")
+            time.sleep(max(0.0, 0.2 - (time.monotonic() - (deadline - 6)) % 0.2))
         return max(browser.run("return window.clicks"), default=0.0)
 
 
@@ -1493,10 +1510,11 @@ class GroupMemberPage(LimitedTest):
         for name in ("restart", "backup", "setup"):
             self.assertFalse(browser.find(f"#gateway-{name}").is_enabled(), name)
         self.wait_for_text("#gateway-note", "Restart, Back up and Set up need administrative access.")
-        self.learn("01800D11", "D2-01-00", "Caretaker's lamp")
-        before = len(stick.sent())
+        self.learn_device("01800D11", "D2-01-00", "Caretaker's lamp")
+        size_before = len(stick.sent())
         self.press(self.row("01800D11"), "On")
-        self.wait(lambda: stick.sent()[before:], lambda seen: "d2010064ff800000000301800d11" in seen, "the order")
+        self.wait(lambda: stick.sent()[size_before:], lambda sent_digits: "d2010064ff800000000301800d11" in sent_digits,
+                  "the order")
         self.wait_for_text(self.row("01800D11"), "sent …")
         browser.click(self.row("01800D11") + " a")
         browser.click("#device-edit")
@@ -1517,7 +1535,7 @@ class ReadOnlyPage(LimitedTest):
             self.assertFalse(browser.find(f"#gateway-{name}").is_enabled(), name)
         self.shoot("read-only")
         stick.bring("01800D01", PRESS)
-        self.tab("add")
+        self.open_tab("add")
         self.wait_for_text(self.row("01800D01", "unknown"), "switch")
         browser.click(self.row("01800D01", "unknown") + " button")
         self.assertFalse(browser.find("#learn-go").is_enabled())
@@ -1529,7 +1547,7 @@ class ReadOnlyPage(LimitedTest):
         for name in ("open", "close"):
             self.assertFalse(browser.find(f"#teach-{name}").is_enabled(), name)
         ctl("add", "01800D04", "D2-01-02")
-        self.tab("devices")
+        self.open_tab("devices")
         self.wait_for_text(self.row("01800D04"), "On")
         self.wait_for_disabled(f"{self.row('01800D04')} :is(button, input)", 3)
         self.go("#/groups")
@@ -1541,7 +1559,8 @@ class ReadOnlyPage(LimitedTest):
     def wait_for_disabled(self, selector: str, count: int) -> None:
         """Waits until there are so many targets, which are all disabled."""
         script = "return [...document.querySelectorAll(arguments[0])].map(({ disabled }) => disabled)"
-        self.wait(lambda: browser.run(script, selector), lambda found: found == [True] * count, selector)
+        self.wait(lambda: browser.run(script, selector), lambda states_of_buttons: states_of_buttons == [True] * count,
+                  selector)
 
     def test_devices_have_the_labels_of_the_last_list_and_the_times_of_the_bridge(self):
         """The list is not among the lines that the page reads."""
@@ -1550,26 +1569,26 @@ class ReadOnlyPage(LimitedTest):
             ctl(*words)
         gateway.append('{"type":"ok"}\n' * 90_000)
         self.record("01800D02", datetime.now(timezone.utc) - timedelta(hours=50))
-        before = gateway.desk.read_bytes()
+        desk_before = gateway.desk.read_bytes()
         self.open()
         self.wait_for_text("#attention", "Cellar door was last heard 2 d ago")
-        self.tab("devices")
+        self.open_tab("devices")
         self.wait_for_text(self.row("01800D02"), "Cellar door", "D5-00-01", "Contact", "2 d ago")
         self.wait_for_text(self.row("01800D03"), "(no label)", "F6-02-01", "none known")
         self.wait_for_text("#devices-note", "Devices and labels are those of the last list.")
         quiet = browser.run("return document.querySelector(arguments[0]).className", self.row("01800D02"))
         self.assertEqual(quiet, "quiet")
-        shown = str(len(self.ids("devices")))
-        self.wait(lambda: browser.text("#device-count"), lambda text: text == shown, f"{shown} devices")
-        self.assertEqual(gateway.desk.read_bytes(), before)
+        device_count = str(len(self.ids("devices")))
+        self.wait(lambda: browser.text("#device-count"), lambda text: text == device_count, f"{device_count} devices")
+        self.assertEqual(gateway.desk.read_bytes(), desk_before)
 
     def record(self, device: str, time: datetime) -> None:
         """A bridge runs, and has heard a device at this time."""
         store = Store(str(gateway.state), "")
         self.addCleanup(store.connection.close)
         state = {"last_seen": time.isoformat(timespec="seconds")}
-        known = {device: Device(device, "D5-00-01", "", None, state)}
-        store.save(position_at_end(str(gateway.lines_path)), [device], known, set())
+        known_devices = {device: Device(device, "D5-00-01", "", None, state)}
+        store.save(position_at_end(str(gateway.lines_path)), [device], known_devices, set())
         gateway.state.parent.chmod(0o755)
         for file in gateway.state.parent.iterdir():
             file.chmod(0o644)

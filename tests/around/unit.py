@@ -15,7 +15,7 @@ text = open(unit).read().replace("\\\n", "")
 def setting_commands(setting):
     """The commands of a setting, in their order."""
     for command in re.findall(rf"^{setting}=(.*)$", text, re.MULTILINE):
-        yield re.sub(r"%.|\$\$", lambda found: words[found[0]], command)
+        yield re.sub(r"%.|\$\$", lambda word_match: words[word_match[0]], command)
 
 
 print("umask", re.search(r"^UMask=(.*)$", text, re.MULTILINE)[1])

@@ -33,13 +33,13 @@ class Clock:
 
     def __init__(self, now: float = 1000.0):
         self.now = now
-        self.slept: list[float] = []
+        self.sleeps: list[float] = []
 
     def __call__(self) -> float:
         return self.now
 
     def sleep(self, seconds: float) -> None:
-        self.slept.append(seconds)
+        self.sleeps.append(seconds)
         self.now += seconds
 
 
@@ -48,9 +48,9 @@ class FakeConnection:
 
     def __init__(self, memory: dict[str, str]):
         self.memory = memory
-        self.received: list[ReceivedMessage] = []
-        self.unacknowledged: set[int] = set()
-        self.unanswered: set[int] = set()
+        self.received_messages: list[ReceivedMessage] = []
+        self.unacknowledged_numbers: set[int] = set()
+        self.unanswered_numbers: set[int] = set()
         self.published: list[tuple[str, str, bool]] = []
         # the user properties of the messages that have some
         self.properties: list[tuple[str, dict[str, str]]] = []
@@ -72,20 +72,20 @@ class FakeConnection:
             if not message.payload:
                 del self.memory[message.topic]
         if message.topic in WATCHED and self.passes_messages_on:
-            self.received.append(ReceivedMessage(message.topic, message.payload.encode(), False))
-        self.unacknowledged.add(self.next_number())
+            self.received_messages.append(ReceivedMessage(message.topic, message.payload.encode(), False))
+        self.unacknowledged_numbers.add(self.next_number())
         return self.number
 
     def request_retained(self, filters):
         self.requests.append(filters)
         for topic, text in list(self.memory.items()):
-            if any(is_match(one, topic) for one in filters):
-                self.received.append(ReceivedMessage(topic, text.encode(), True))
-        self.unanswered.add(self.next_number())
+            if any(is_match(topic_filter, topic) for topic_filter in filters):
+                self.received_messages.append(ReceivedMessage(topic, text.encode(), True))
+        self.unanswered_numbers.add(self.next_number())
         return self.number
 
     def cancel_request(self, _filters):
-        self.unanswered.add(self.next_number())
+        self.unanswered_numbers.add(self.next_number())
         return self.number
 
     def close(self):
@@ -95,19 +95,19 @@ class FakeConnection:
         if self.is_lost:
             raise ConnectionLost("it is lost")
         if self.acknowledges_messages:
-            self.unacknowledged.clear()
+            self.unacknowledged_numbers.clear()
         if self.answers_requests:
-            self.unanswered.clear()
+            self.unanswered_numbers.clear()
 
     def end(self, _seconds):
         self.is_ended = True
         self.turn(0)
 
 
-def is_match(shape: str, topic: str) -> bool:
+def is_match(topic_filter: str, topic: str) -> bool:
     """Whether a filter of MQTT matches a topic."""
-    parts, words = shape.split("/"), topic.split("/")
-    return len(parts) == len(words) and all(part in ("+", word) for part, word in zip(parts, words))
+    levels, words = topic_filter.split("/"), topic.split("/")
+    return len(levels) == len(words) and all(level in ("+", word) for level, word in zip(levels, words))
 
 
 class FakeBroker:
@@ -117,9 +117,9 @@ class FakeBroker:
         self.memory: dict[str, str] = {}
         self.connection: FakeConnection | None = None
         self.readers: list[FakeConnection] = []
-        self.lost: list[str] = []
+        self.loss_reasons: list[str] = []
         # what the bridge has reported about the connection
-        self.said: list[str] = []
+        self.messages: list[str] = []
         self.due = 0.0
         self.is_new = False
 
@@ -128,18 +128,18 @@ class FakeBroker:
         return self.readers[-1]
 
     def report_connected(self) -> None:
-        self.said.append("connected")
+        self.messages.append("connected")
 
     def report_refused(self, topic: str) -> None:
-        self.said.append(f"refused {topic}")
+        self.messages.append(f"refused {topic}")
 
     def accept_connection(self, passes_on: bool = True) -> FakeConnection:
         self.connection, self.is_new = FakeConnection(self.memory), True
         self.connection.passes_messages_on = passes_on
         return self.connection
 
-    def lose(self, why: str = "") -> None:
-        self.lost.append(why)
+    def lose(self, reason: str = "") -> None:
+        self.loss_reasons.append(reason)
         self.connection = None
 
     def turn(self):
@@ -149,26 +149,26 @@ class FakeBroker:
         return is_new
 
 
-class BridgeSite:
+class BridgeFixture:
     """The files of a gateway in a temporary folder, and a bridge to a fake broker."""
 
-    def __init__(self, case: unittest.TestCase):
+    def __init__(self, test_case: unittest.TestCase):
         folder = tempfile.TemporaryDirectory()
-        case.addCleanup(folder.cleanup)
+        test_case.addCleanup(folder.cleanup)
         self.folder = pathlib.Path(folder.name)
         self.lines, self.desk = self.folder / "hall.lines", self.folder / "desk"
         self.state, self.boot = self.folder / "hall.db", "a boot"
         self.clock, self.wall, self.broker = Clock(), Clock(1_800_000_000.0), FakeBroker()
         self.topics = Topics("hall", "homeassistant")
         # the last wait of the bridge: for which connections, how long, and whether a change of a file ends it
-        self.waited: tuple[list, float, bool] = [], 0.0, True
+        self.wait_calls: tuple[list, float, bool] = [], 0.0, True
         self.lines.touch()
         self.desk.touch()
 
     def start(self, learn_for: int = 120, label_wait: int = 0, asks_actuators: bool = False) -> Bridge:
         """A bridge, after it has read the lines that are there."""
         store = Store(str(self.state), self.topics.discovery, self.boot)
-        devices = Devices(self.topics, Table(), None, store.devices, store.removed, may_adopt=store.may_adopt,
+        devices = Devices(self.topics, Table(), None, store.devices, store.removed_topics, may_adopt=store.may_adopt,
                           label_wait=label_wait, clock=self.clock)
         desk = Desk(str(self.desk), self.clock)
         queries = Queries(devices, desk) if asks_actuators else None
@@ -179,8 +179,8 @@ class BridgeSite:
         self.bridge.read_earlier_lines()
         return self.bridge
 
-    def wait(self, *waited) -> None:
-        self.waited = waited
+    def wait(self, *connections) -> None:
+        self.wait_calls = connections
 
     def kill(self) -> None:
         """The bridge is killed. The clock of the next one may begin anywhere."""
@@ -209,7 +209,7 @@ class BridgeSite:
 
     def send(self, topic: str, payload: bytes, retained: bool = False) -> None:
         """Somebody publishes a message."""
-        self.broker.connection.received.append(ReceivedMessage(topic, payload, retained))
+        self.broker.connection.received_messages.append(ReceivedMessage(topic, payload, retained))
 
     def remove_retained(self, start: str = "") -> None:
         """Somebody removes the retained messages on the topics that begin so."""
@@ -239,8 +239,8 @@ def listing(*devices: tuple[str, str, str]) -> list[dict]:
 
 
 def status(mode: str = "closed", **counters: int) -> dict:
-    every = {"ignored": 0, "readings": 0, "refused": 0, "responses": 0, "teach": 0, **counters}
-    return {**every, "mode": mode, "type": "status"}
+    all_counters = {"ignored": 0, "readings": 0, "refused": 0, "responses": 0, "teach": 0, **counters}
+    return {**all_counters, "mode": mode, "type": "status"}
 
 
 class TimeLimitedTest(unittest.TestCase):
@@ -258,11 +258,11 @@ class LogTest(TimeLimitedTest):
     """A test that sees what is logged."""
 
     def setUp(self) -> None:
-        self.logged: list[str] = []
+        self.logged_lines: list[str] = []
         handler = logging.Handler()
-        handler.emit = lambda record: self.logged.append(f"{record.levelname}: {record.getMessage()}")
+        handler.emit = lambda record: self.logged_lines.append(f"{record.levelname}: {record.getMessage()}")
         logging.basicConfig(handlers=[handler], level=logging.INFO, force=True)
 
-    def assert_logged(self, text: str, times: int = 1) -> None:
-        found = [line for line in self.logged if text in line]
-        self.assertEqual(len(found), times, self.logged)
+    def assert_logged(self, text: str, count: int = 1) -> None:
+        lines = [line for line in self.logged_lines if text in line]
+        self.assertEqual(len(lines), count, self.logged_lines)

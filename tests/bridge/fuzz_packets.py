@@ -29,71 +29,71 @@ PACKET_BODIES = {
         (0xB0, b"\x00\x03"), (0xD0, b""), (0x20, b"\x00\x05"))}
 
 
-def packet(first: int, body: bytes) -> bytes:
+def packet(first_byte: int, body: bytes) -> bytes:
     """A packet with its length."""
     length, digits = len(body), bytearray()
     while length or not digits:
         length, digit = length >> 7, length & 127
         digits.append(digit | (128 if length else 0))
-    return bytes([first]) + bytes(digits) + body
+    return bytes([first_byte]) + bytes(digits) + body
 
 
-def mutated_bytes(chance: random.Random, data: bytes) -> bytes:
+def mutated_bytes(rng: random.Random, original: bytes) -> bytes:
     """These bytes, with some of them replaced, removed or added."""
-    found = bytearray(data)
-    for _ in range(chance.choice((1, 1, 2, 5))):
-        at = chance.randrange(len(found) + 1)
-        found[at:at + chance.choice((0, 1, 1, 4))] = chance.randbytes(chance.choice((0, 1, 1, 4)))
-    return bytes(found)
+    mutated_copy = bytearray(original)
+    for _ in range(rng.choice((1, 1, 2, 5))):
+        index = rng.randrange(len(mutated_copy) + 1)
+        mutated_copy[index:index + rng.choice((0, 1, 1, 4))] = rng.randbytes(rng.choice((0, 1, 1, 4)))
+    return bytes(mutated_copy)
 
 
-def random_packet(chance: random.Random, version: int) -> bytes:
+def random_packet(rng: random.Random, version: int) -> bytes:
     """A packet that is right, has a wrong body or a wrong length, or consists of random bytes."""
-    first, body = chance.choice(PACKET_BODIES[version])
-    match chance.randrange(8):
+    first_byte, body = rng.choice(PACKET_BODIES[version])
+    match rng.randrange(8):
         case 0:
-            return packet(first, body)
+            return packet(first_byte, body)
         case 1:
-            return mutated_bytes(chance, packet(first, body))
+            return mutated_bytes(rng, packet(first_byte, body))
         case 2:
-            return chance.randbytes(chance.randrange(30))
+            return rng.randbytes(rng.randrange(30))
         case 3:
-            return packet(chance.randrange(256), body)
+            return packet(rng.randrange(256), body)
         case 4:
-            return packet(first, body[:chance.randrange(len(body) + 1)])
-    return packet(first, mutated_bytes(chance, body))
+            return packet(first_byte, body[:rng.randrange(len(body) + 1)])
+    return packet(first_byte, mutated_bytes(rng, body))
 
 
 class RandomPackets(unittest.TestCase):
     def test_random_packets(self):
-        chance, reasons = random.Random(SEED), set()
-        for number in range(CONNECTIONS):
-            reasons.add(self.reason_of_a_loss(chance, chance.choice((4, 5)), number))
+        rng, reasons = random.Random(SEED), set()
+        for connection_number in range(CONNECTIONS):
+            reasons.add(self.reason_of_a_loss(rng, rng.choice((4, 5)), connection_number))
         invalid = [reason for reason in reasons if reason.startswith("invalid packet from the broker (")]
         print(f"{CONNECTIONS} connections, {len(reasons)} reasons of losses, {len(invalid)} of them exceptions of paho")
         self.assertGreater(len(invalid), 5)
 
-    def reason_of_a_loss(self, chance: random.Random, version: int, number: int) -> str:
+    def reason_of_a_loss(self, rng: random.Random, version: int, connection_number: int) -> str:
         """Why a connection is lost whose broker sends some packets, and closes it."""
-        ours, theirs = socket.socketpair()
-        sent = b"".join(random_packet(chance, version) for _ in range(chance.randrange(1, 6)))
-        with ours, theirs, mock.patch("socket.create_connection", return_value=ours):
-            theirs.setblocking(False)
-            opening = packet(*PACKET_BODIES[version][0]) if chance.random() < 0.6 else b""
+        bridge_socket, broker_socket = socket.socketpair()
+        stream = b"".join(random_packet(rng, version) for _ in range(rng.randrange(1, 6)))
+        with bridge_socket, broker_socket, mock.patch("socket.create_connection", return_value=bridge_socket):
+            broker_socket.setblocking(False)
+            opening = packet(*PACKET_BODIES[version][0]) if rng.random() < 0.6 else b""
             try:
-                connection = Connection(paho.mqtt.client, LOGIN, TOPICS, version, lambda: 0.0, chance.random() < 0.2)
-                theirs.sendall(opening + sent)
+                connection = Connection(paho.mqtt.client, LOGIN, TOPICS, version, lambda: 0.0, rng.random() < 0.2)
+                broker_socket.sendall(opening + stream)
                 connection.turn(0)
                 connection.publish(Message("enogate/hall/status", "online", True))
-                theirs.shutdown(socket.SHUT_WR)
+                broker_socket.shutdown(socket.SHUT_WR)
                 for _ in range(200):
                     connection.turn(0)
             except ConnectionLost as lost:
                 connection.close()
                 return str(lost)
             except Exception as error:
-                raise AssertionError(f"connection {number}, MQTT {version}: {opening + sent!r}") from error
-        self.fail(f"connection {number} is not lost: {opening + sent!r}")
+                raise AssertionError(f"connection {connection_number}, MQTT {version}: {opening + stream!r}") from error
+        self.fail(f"connection {connection_number} is not lost: {opening + stream!r}")
 
 
 if __name__ == "__main__":

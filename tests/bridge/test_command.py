@@ -37,15 +37,15 @@ def fraction_reading(text):
 class CommandTest(unittest.TestCase):
     maxDiff = None
 
-    def run_it(self, *words, lines=(), **variables):
+    def run_command(self, *words, lines=(), **variables):
         """Runs the command with these words, lines on its standard input, and environment variables."""
-        text = "".join(f"{line}\n" for line in lines).encode(errors="surrogateescape")
+        line_text = "".join(f"{line}\n" for line in lines).encode(errors="surrogateescape")
         environment = {**os.environ, **variables}
-        return subprocess.run([COMMAND, *words], input=text, capture_output=True, env=environment, timeout=TIMEOUT)
+        return subprocess.run([COMMAND, *words], input=line_text, capture_output=True, env=environment, timeout=TIMEOUT)
 
-    def printed(self, *lines, **variables):
+    def printed_messages(self, *lines, **variables):
         """What the command prints of these lines, by line, and its journal."""
-        run = self.run_it("--print", "hall", lines=lines, **variables)
+        run = self.run_command("--print", "hall", lines=lines, **variables)
         self.assertEqual(run.returncode, 0)
         return run.stdout.decode().splitlines(), run.stderr.decode().splitlines()
 
@@ -53,40 +53,41 @@ class CommandTest(unittest.TestCase):
 class PrintedMessages(CommandTest):
     """`--print` needs no broker."""
 
-    def values(self, eep, subtopic, *readings):
+    def reading_messages(self, eep, subtopic, *readings):
         """What is published on this subtopic for each of the readings."""
-        start = f"{DEVICE}/{subtopic} retained "
-        found, _ = self.printed(*(reading(eep, it) for it in readings))
-        return [it.removeprefix(start) for it in found if it.startswith(start)]
+        topic_start = f"{DEVICE}/{subtopic} retained "
+        messages, _ = self.printed_messages(*(reading(eep, members) for members in readings))
+        return [members.removeprefix(topic_start) for members in messages if members.startswith(topic_start)]
 
     def test_what_is_printed(self):
         """A line that is no JSON is reported. The last line is of a type that the bridge does not have to know."""
-        found, journal = self.printed(ACCEPTED, '{"dbm":-45,"eep":"D5', READING, PACKET)
-        self.assertEqual([it for it in found if not it.startswith("homeassistant/")], [
+        messages, journal = self.printed_messages(ACCEPTED, '{"dbm":-45,"eep":"D5', READING, PACKET)
+        self.assertEqual([members for members in messages if not members.startswith("homeassistant/")], [
             f"enogate/hall/lines - {ACCEPTED}",
             f"enogate/hall/lines - {READING}",
             f"{DEVICE}/CO retained closed",
             f"{DEVICE}/dbm retained -45",
             f"enogate/hall/lines - {PACKET}",
         ])
-        self.assertEqual(sum(it.startswith(f"{CONTACT_CONFIG} retained {{") for it in found), 1)
+        self.assertEqual(sum(members.startswith(f"{CONTACT_CONFIG} retained {{") for members in messages), 1)
         self.assertEqual(journal, ["enogate-mqtt: invalid line ignored: b'{\"dbm\":-45,\"eep\":\"D5'"])
 
     def test_decimal_numbers(self):
-        wanted = {
+        text_by_fraction = {
             "1024/51": "20.0784", "-1/3": "-0.333333", "2/3": "0.666667", "200001/2": "100000.5",
             "200003/2": "100001.5", "1234567/100": "12345.67", "12345678/5": "2469135.6",
             "999999999/1000": "999999.999", "1/3000000": "0.000000333333", "-100/1": "-100", "0/1": "0",
             "4294967295/1": "4294967295",
         }
-        self.assertEqual(self.values("A5-02-05", "TMP", *map(fraction_reading, wanted)), [*wanted.values()])
+        self.assertEqual(self.reading_messages("A5-02-05", "TMP", *map(fraction_reading, text_by_fraction)),
+                         [*text_by_fraction.values()])
 
     def test_words_and_raw_numbers(self):
         for eep, value, text in (("A5-10-05", {"name": "SP", "raw": 255}, "255"),
                                  ("A5-10-05", {"name": "OCC", "word": "pressed"}, "pressed"),
                                  ("A5-04-01", {"name": "HUM", "out_of_range": 251}, "out_of_range")):
             with self.subTest(value):
-                self.assertEqual(self.values(eep, value["name"], value), [text])
+                self.assertEqual(self.reading_messages(eep, value["name"], value), [text])
 
     def test_lines_of_no_gateway(self):
         """They are reported and not published. A line that is not understood is only published as it is."""
@@ -96,101 +97,109 @@ class PrintedMessages(CommandTest):
             reading("A5-02-05", {"name": "../#", "word": "on"}), reading("A5-02-05", {"name": "TMP", "raw": 1.5}),
             reading("D5-00-01", {"name": "CO", "word": "closed"}, device="+"),
         ]
-        found, journal = self.printed(*no_lines, *not_understood)
-        self.assertEqual(found, [f"enogate/hall/lines - {it}" for it in not_understood])
-        starts = ("invalid line ignored: ", "line with unexpected members, not decoded: ")
-        self.assertEqual([sum(start in it for it in journal) for start in starts], [len(no_lines), len(not_understood)])
+        messages, journal = self.printed_messages(*no_lines, *not_understood)
+        self.assertEqual(messages, [f"enogate/hall/lines - {members}" for members in not_understood])
+        line_starts = ("invalid line ignored: ", "line with unexpected members, not decoded: ")
+        self.assertEqual([sum(start in members for members in journal) for start in line_starts],
+                         [len(no_lines), len(not_understood)])
 
     def test_presses(self):
         """A press is an event of its rocker, a release is one event, and neither is retained."""
         pressed, released = ({"name": "EB", "word": word} for word in ("pressed", "released"))
-        found, _ = self.printed(*(reading("F6-02-01", *it) for it in (
+        messages, _ = self.printed_messages(*(reading("F6-02-01", *members) for members in (
             [{"name": "R1", "word": "AI"}, pressed, {"name": "R2", "word": "B0"}],
             [{"name": "R1", "word": "AI"}, released],
             [{"name": "buttons", "word": "none"}, released],
             [{"name": "buttons", "word": "three_or_four"}, pressed],
             [{"name": "R1", "out_of_range": 5}, pressed],
         )))
-        self.assertEqual([it for it in found if "/press" in it.split(" ")[0]], [
-            f'{DEVICE}/press - {{"event_type":"{it}"}}' for it in ("AI", "B0", "released", "released", "three_or_four")
+        self.assertEqual([members for members in messages if "/press" in members.split(" ")[0]], [
+            f'{DEVICE}/press - {{"event_type":"{members}"}}'
+            for members in ("AI", "B0", "released", "released", "three_or_four")
         ])
 
     def test_lists(self):
         """A list deletes the devices that are not on it, if it is complete."""
-        other = '{"eep":"D5-00-01","id":"01800ABD","label":"","maker":null,"type":"device"}'
-        end = '{"count":1,"type":"list"}'
-        for lines, count in (([other, end], 1), ([end], 0), ([other, READING, end], 0), ([other, "torn", end], 0)):
+        other_device_line = '{"eep":"D5-00-01","id":"01800ABD","label":"","maker":null,"type":"device"}'
+        end_line = '{"count":1,"type":"list"}'
+        for lines, count in (([other_device_line, end_line], 1), ([end_line], 0),
+                             ([other_device_line, READING, end_line], 0), ([other_device_line, "torn", end_line], 0)):
             with self.subTest(lines):
-                found, _ = self.printed(ACCEPTED, READING, *lines)
-                self.assertEqual(found.count(DELETED.format(CONTACT_CONFIG)), count)
+                messages, _ = self.printed_messages(ACCEPTED, READING, *lines)
+                self.assertEqual(messages.count(DELETED.format(CONTACT_CONFIG)), count)
 
     def test_another_profile(self):
         """The device is announced again, and what was retained for its first profile is deleted."""
-        again = '{"eep":"A5-02-05","id":"01800ABC","maker":70,"result":"accepted","type":"teach"}'
-        before, _ = self.printed(ACCEPTED, READING)
-        found, _ = self.printed(ACCEPTED, READING, again)
-        self.assertEqual(found[: len(before)], before)
-        shown = "homeassistant/sensor/enogate_hall/01800ABC_{}/config retained"
-        self.assertEqual([it.split(" {")[0] for it in found[len(before) :]], [
+        teach_line = '{"eep":"A5-02-05","id":"01800ABC","maker":70,"result":"accepted","type":"teach"}'
+        messages_before, _ = self.printed_messages(ACCEPTED, READING)
+        messages, _ = self.printed_messages(ACCEPTED, READING, teach_line)
+        self.assertEqual(messages[: len(messages_before)], messages_before)
+        config_form = "homeassistant/sensor/enogate_hall/01800ABC_{}/config retained"
+        self.assertEqual([members.split(" {")[0] for members in messages[len(messages_before) :]], [
             "enogate/hall/lines -", *map(DELETED.format, (f"{DEVICE}/CO", f"{DEVICE}/dbm", CONTACT_CONFIG)),
-            *map(shown.format, ("TMP", "dbm", "last_seen")),
+            *map(config_form.format, ("TMP", "dbm", "last_seen")),
         ])
 
     def test_discovery(self):
-        found, _ = self.printed(ACCEPTED, READING, MQTT_DISCOVERY="")
-        self.assertEqual([it.split(" ")[0] for it in found],
+        messages, _ = self.printed_messages(ACCEPTED, READING, MQTT_DISCOVERY="")
+        self.assertEqual([members.split(" ")[0] for members in messages],
                          ["enogate/hall/lines", "enogate/hall/lines", f"{DEVICE}/CO", f"{DEVICE}/dbm"])
-        found, _ = self.printed(ACCEPTED, MQTT_DISCOVERY="ha/found")
+        messages, _ = self.printed_messages(ACCEPTED, MQTT_DISCOVERY="ha/found")
         self.assertEqual(
-            sum(it.startswith("ha/found/binary_sensor/enogate_hall/01800ABC_CO/config retained {") for it in found), 1)
+            sum(members.startswith("ha/found/binary_sensor/enogate_hall/01800ABC_CO/config retained {")
+                for members in messages), 1)
 
 
     def test_expiry(self):
         """Without the setting, each kind of device has a time of its own."""
         temperature = ACCEPTED.replace("D5-00-01", "A5-02-05")
-        for variables, wanted in (({}, [5400, 3600]), ({"MQTT_EXPIRE_AFTER": "auto"}, [5400, 3600]),
-                                  ({"MQTT_EXPIRE_AFTER": "60"}, [60, 60]), ({"MQTT_EXPIRE_AFTER": ""}, [])):
+        for variables, expected_times in (({}, [5400, 3600]), ({"MQTT_EXPIRE_AFTER": "auto"}, [5400, 3600]),
+                                          ({"MQTT_EXPIRE_AFTER": "60"}, [60, 60]), ({"MQTT_EXPIRE_AFTER": ""}, [])):
             with self.subTest(variables):
-                found = self.printed(ACCEPTED, temperature, **variables)[0]
-                self.assertEqual([int(it) for it in re.findall('"expire_after":([0-9]+)', "\n".join(found))], wanted)
+                messages = self.printed_messages(ACCEPTED, temperature, **variables)[0]
+                self.assertEqual([int(members) for members in re.findall('"expire_after":([0-9]+)',
+                                                                         "\n".join(messages))], expected_times)
 
 
 class RefusedArguments(CommandTest):
     """A wrong setting or word ends the command with one line, and the status at which its unit is not restarted."""
 
-    def assert_refused(self, wanted, *words, **variables):
-        run = self.run_it(*words, **variables)
-        found = run.returncode, run.stdout, run.stderr.decode()
-        self.assertEqual(found, (2, b"", f"enogate-mqtt: {wanted}\n"))
+    def assert_refused(self, expected_error, *words, **variables):
+        run = self.run_command(*words, **variables)
+        status_and_output = run.returncode, run.stdout, run.stderr.decode()
+        self.assertEqual(status_and_output, (2, b"", f"enogate-mqtt: {expected_error}\n"))
 
     def test_settings(self):
         work = pathlib.Path(self.enterContext(tempfile.TemporaryDirectory()))
         (work / "empty").write_text("\n")
-        empty, none, missing = str(work / "empty"), str(work / "none"), "No such file or directory"
+        empty_file, missing_file, no_such_file = str(work / "empty"), str(work / "none"), "No such file or directory"
         paths = ["--lines", str(work / "lines"), "--desk", str(work / "desk"), "--state", str(work / "state")]
-        for wanted, variables in (
+        for expected_error, variables in (
             ("MQTT_HOST is empty", {"MQTT_HOST": ""}),
             ("invalid MQTT_PORT: 65536 (expected 1 to 65535)", {"MQTT_PORT": "65536"}),
             ("invalid MQTT_PORT: mqtt (expected 1 to 65535)", {"MQTT_PORT": "mqtt"}),
-            (f"cannot read MQTT_PASSWORD_FILE: {none}: {missing}", {"MQTT_USER": "hall", "MQTT_PASSWORD_FILE": none}),
-            (f"first line of MQTT_PASSWORD_FILE is empty: {empty}", {"MQTT_USER": "hall", "MQTT_PASSWORD_FILE": empty}),
+            (f"cannot read MQTT_PASSWORD_FILE: {missing_file}: {no_such_file}",
+             {"MQTT_USER": "hall", "MQTT_PASSWORD_FILE": missing_file}),
+            (f"first line of MQTT_PASSWORD_FILE is empty: {empty_file}",
+             {"MQTT_USER": "hall", "MQTT_PASSWORD_FILE": empty_file}),
             ("MQTT_PASSWORD_FILE is set, but MQTT_USER is not", {"MQTT_PASSWORD_FILE": str(COMMAND)}),
             ("invalid MQTT_TLS: on (expected yes or no)", {"MQTT_TLS": "on"}),
             ("MQTT_CA_FILE is set, but MQTT_TLS is not yes", {"MQTT_CA_FILE": "ca.crt"}),
-            (f"cannot load MQTT_CA_FILE: {none}: {missing}", {"MQTT_TLS": "yes", "MQTT_CA_FILE": none}),
+            (f"cannot load MQTT_CA_FILE: {missing_file}: {no_such_file}",
+             {"MQTT_TLS": "yes", "MQTT_CA_FILE": missing_file}),
             ("MQTT_KEY_FILE is set, but MQTT_CERT_FILE is not", {"MQTT_TLS": "yes", "MQTT_KEY_FILE": "hall.key"}),
-            (f"cannot load MQTT_CERT_FILE and MQTT_KEY_FILE: {none}: {missing}",
-             {"MQTT_TLS": "yes", "MQTT_CERT_FILE": none}),
+            (f"cannot load MQTT_CERT_FILE and MQTT_KEY_FILE: {missing_file}: {no_such_file}",
+             {"MQTT_TLS": "yes", "MQTT_CERT_FILE": missing_file}),
             ("invalid MQTT_LEARN_SECONDS: 2m (expected a number of seconds)", {"MQTT_LEARN_SECONDS": "2m"}),
             ("invalid MQTT_EXPIRE_AFTER: 1h (expected auto, a number of seconds, or nothing)",
              {"MQTT_EXPIRE_AFTER": "1h"}),
             ("invalid MQTT_DISCOVERY: home/# (expected a topic without # and +)", {"MQTT_DISCOVERY": "home/#"}),
         ):
-            with self.subTest(wanted):
-                self.assert_refused(wanted, *paths, "hall", **variables)
+            with self.subTest(expected_error):
+                self.assert_refused(expected_error, *paths, "hall", **variables)
 
     def test_words(self):
-        for wanted, *words in (
+        for expected_error, *words in (
             ("--lines, --desk and --state are required, except with --print", "hall"),
             ("'hall/+' is not the name of a gateway: use letters, digits, - and _, and do not begin it with - or mqtt",
              "--print", "hall/+"),
@@ -198,7 +207,7 @@ class RefusedArguments(CommandTest):
             ("unrecognized arguments: --host", "--print", "--host", "hall"),
         ):
             with self.subTest(words):
-                self.assert_refused(wanted, *words)
+                self.assert_refused(expected_error, *words)
 
 
 if __name__ == "__main__":

@@ -9,19 +9,19 @@ from unittest import mock
 from enogate_lines.contents import Deleted, EndOfList, Learned, OkOrError, Status, Telegram
 from enogate_mqtt.desk import ANSWER_WITHIN, BYTES_PER_SECOND, COST_OF_LISTED_DEVICE, MAX_BURST, MAX_SIZE
 from enogate_mqtt.desk import Desk, DeskChange
-from fakes import LogTest, Clock, BridgeSite
+from fakes import LogTest, Clock, BridgeFixture
 
 
 @contextlib.contextmanager
 def full_disk_after(free):
     """A file system with so many bytes left."""
-    real, left = os.write, [free]
+    original_write, free_bytes = os.write, [free]
 
     def write(file, text):
-        if left[0] == 0:
+        if free_bytes[0] == 0:
             raise OSError(errno.ENOSPC, "No space left on device")
-        written = real(file, text[:left[0]])
-        left[0] -= written
+        written = original_write(file, text[:free_bytes[0]])
+        free_bytes[0] -= written
         return written
     with mock.patch("os.write", write):
         yield
@@ -34,8 +34,8 @@ REMOVED, READING = Deleted("01800ABC"), Telegram("01800ABC", "D5-00-01", -45, ()
 class DeskOrders(LogTest):
     def setUp(self):
         super().setUp()
-        self.site = BridgeSite(self)
-        self.path, self.clock = self.site.desk, Clock()
+        self.fixture = BridgeFixture(self)
+        self.path, self.clock = self.fixture.desk, Clock()
         self.desk = Desk(str(self.path), self.clock)
 
     def write(self, text, mode="a"):
@@ -58,7 +58,7 @@ class DeskOrders(LogTest):
         self.desk.append(b"list\n")
         self.assertEqual(self.path.read_bytes(), b"dim 01800ABC 0 10\x15\nlist\n")
 
-    def lost(self, orders, *answers):
+    def lost_orders(self, orders, *answers):
         """The orders that a gateway has not answered that is started after these lines."""
         self.setUp()
         self.give(orders.encode())
@@ -68,15 +68,16 @@ class DeskOrders(LogTest):
         self.assertEqual(self.desk.take_lost_orders(), [])
         self.write("", "w")
         self.assertIs(self.desk.take_change(), DeskChange.TRUNCATED)
-        found = [order.decode() for order in self.desk.take_lost_orders()]
-        self.assertEqual((self.desk.take_lost_orders(), len(self.desk.given)), ([], 0))
-        return found
+        lost_orders = [order.decode() for order in self.desk.take_lost_orders()]
+        self.assertEqual((self.desk.take_lost_orders(), len(self.desk.pending_orders)), ([], 0))
+        return lost_orders
 
     def test_orders_that_are_lost_by_a_start(self):
-        two = "dim 01800ABC 0 10\nteach 5\n"
-        for orders, answers, wanted in (
-            (two, (), ["dim 01800ABC 0 10", "teach 5"]), (two, (OK,), ["teach 5"]), (two, (OK, OK, OK), []),
-            (two, (READING, LEARNED, REMOVED, LIST, STATUS), ["dim 01800ABC 0 10", "teach 5"]),
+        two_orders = "dim 01800ABC 0 10\nteach 5\n"
+        for orders, answers, expected_orders in (
+            (two_orders, (), ["dim 01800ABC 0 10", "teach 5"]), (two_orders, (OK,), ["teach 5"]),
+            (two_orders, (OK, OK, OK), []),
+            (two_orders, (READING, LEARNED, REMOVED, LIST, STATUS), ["dim 01800ABC 0 10", "teach 5"]),
             ("teach 5\nstatus\nteach 6\nlist\nteach 7\n", (STATUS,), ["teach 6", "teach 7"]),
             ("teach 5\nstatus\nteach 6\nlist\nteach 7\n", (LIST,), ["teach 7"]),
             ("status\nteach 6\n", (OK, OK), ["teach 6"]),
@@ -88,7 +89,7 @@ class DeskOrders(LogTest):
             ("list\nstatus\nbase\nteach 5\n", (), ["teach 5"]),
         ):
             with self.subTest(orders=orders, answers=answers):
-                self.assertEqual(self.lost(orders, *answers), wanted)
+                self.assertEqual(self.lost_orders(orders, *answers), expected_orders)
 
     def test_orders_after_a_start_are_not_lost(self):
         """Also if the start was not noticed before."""
@@ -137,31 +138,32 @@ class DeskOrders(LogTest):
         """The file system has so many bytes left, and more only after the next order, or the one after it."""
         orders = b"dim 01800ABC 0 100\nlearn on answer\n"
         for free in range(len(orders)):
-            for more in (0, 1, 2, 5, 99):
+            for free_later in (0, 1, 2, 5, 99):
                 self.path.write_bytes(b"list\n")
-                left = [free, more, 99]
+                free_bytes = [free, free_later, 99]
                 for text in (orders, b"status\n", b"base\n"):
-                    with full_disk_after(left.pop(0)), contextlib.suppress(OSError):
+                    with full_disk_after(free_bytes.pop(0)), contextlib.suppress(OSError):
                         self.desk.append(text)
-                with self.subTest(free=free, more=more):
+                with self.subTest(free=free, more=free_later):
                     self.assert_orders(orders, b"status\n", b"list\n", b"base\n")
 
-    def assert_orders(self, *given):
+    def assert_orders(self, *given_orders):
         """Each line of the desk is one that was given, or no order. The last one is whole."""
-        *lines, rest = self.path.read_bytes().split(b"\n")
-        known = b"".join(given).split(b"\n")
-        self.assertEqual(([line for line in lines if line not in known and b"\x15" not in line], rest), ([], b""))
-        self.assertEqual(lines[-1], known[-2])
+        *lines, partial_line = self.path.read_bytes().split(b"\n")
+        known_lines = b"".join(given_orders).split(b"\n")
+        self.assertEqual(([line for line in lines if line not in known_lines and b"\x15" not in line], partial_line),
+                         ([], b""))
+        self.assertEqual(lines[-1], known_lines[-2])
 
     def test_a_part_is_ended_at_once_if_it_fits(self):
-        real = os.write
-        with mock.patch("os.write", lambda file, text: real(file, text[:17])), self.assertRaises(OSError):
+        original_write = os.write
+        with mock.patch("os.write", lambda file, text: original_write(file, text[:17])), self.assertRaises(OSError):
             self.desk.append(b"dim 01800ABC 0 100\n")
         self.assertEqual(self.path.read_bytes(), b"dim 01800ABC 0 10\x15\n")
 
     def test_whole_orders_are_not_ended_again(self):
-        real = os.write
-        with mock.patch("os.write", lambda file, text: real(file, text[:5])), self.assertRaises(OSError):
+        original_write = os.write
+        with mock.patch("os.write", lambda file, text: original_write(file, text[:5])), self.assertRaises(OSError):
             self.desk.append(b"list\nstatus\n")
         self.assertEqual(self.path.read_bytes(), b"list\n")
 
@@ -170,11 +172,11 @@ class DeskOrders(LogTest):
             self.desk.append(b"list\n")
 
     def test_the_file_is_closed(self):
-        before = len(os.listdir("/proc/self/fd"))
+        descriptor_count = len(os.listdir("/proc/self/fd"))
         self.desk.append(b"list\n")
         with mock.patch("os.write", side_effect=OSError), self.assertRaises(OSError):
             self.desk.append(b"list\n")
-        self.assertEqual(len(os.listdir("/proc/self/fd")), before)
+        self.assertEqual(len(os.listdir("/proc/self/fd")), descriptor_count)
 
     def test_no_desk(self):
         self.path.unlink()
@@ -186,8 +188,8 @@ class DeskOrders(LogTest):
         self.path.unlink()
         os.mkfifo(self.path)
         # a desk that waits for a reader would wait for good
-        former = signal.signal(signal.SIGALRM, lambda *_: self.fail("it waits"))
-        self.addCleanup(signal.signal, signal.SIGALRM, former)
+        former_handler = signal.signal(signal.SIGALRM, lambda *_: self.fail("it waits"))
+        self.addCleanup(signal.signal, signal.SIGALRM, former_handler)
         self.addCleanup(signal.alarm, 0)
         signal.alarm(10)
         with self.assertRaises(OSError) as error:
@@ -235,13 +237,13 @@ class DeskOrders(LogTest):
                 self.assertEqual(self.lines(), [order.decode()])
                 self.assertEqual(self.give(order + b"\nbase\n" + order + b"\n"), 2)
                 self.assertEqual(self.lines()[1:], ["base"])
-                self.desk.unanswered.note_answer(order)
+                self.desk.pending_requests.note_answer(order)
                 self.assertEqual(self.give(b"base\n" + order + b"\n"), 0)
                 self.assertEqual(self.lines()[2:], ["base", order.decode()])
 
     def test_list_and_status_do_not_wait_for_each_other(self):
         self.give(b"list\nstatus\n")
-        self.desk.unanswered.note_answer(b"status")
+        self.desk.pending_requests.note_answer(b"status")
         self.assertEqual(self.give(b"status\nlist\n"), 1)
         self.assertEqual(self.lines(), ["list", "status", "status"])
 
@@ -263,13 +265,13 @@ class DeskOrders(LogTest):
         self.desk.append(b"list\n")
         for _ in range(2):
             self.assertEqual(self.give(b"list\n"), 1)
-            self.desk.unanswered.note_answer(b"list")
+            self.desk.pending_requests.note_answer(b"list")
         self.assertEqual(self.give(b"list\n"), 0)
         self.assertEqual(self.lines(), ["list"] * 4)
 
     def test_answers_to_orders_of_another_program(self):
         for _ in range(2):
-            self.desk.unanswered.note_answer(b"list")
+            self.desk.pending_requests.note_answer(b"list")
         self.give(b"list\n")
         self.assertEqual(self.give(b"list\n"), 1)
 
@@ -286,7 +288,7 @@ class DeskOrders(LogTest):
         for _ in range(3000):
             self.desk.append(b"status\n")
             self.clock.now += 60
-        self.assertEqual(len(self.desk.unanswered.given[b"status"]), 100)
+        self.assertEqual(len(self.desk.pending_requests.times_by_request[b"status"]), 100)
 
     def test_a_gateway_that_was_started_answers_no_order_of_before(self):
         self.desk.take_change()
@@ -300,17 +302,17 @@ class DeskOrders(LogTest):
     def test_a_list_counts_a_line_for_each_device(self):
         """Each line of its answer counts like the shortest order."""
         self.assertEqual(COST_OF_LISTED_DEVICE, 5)
-        passed = []
+        passed_on = []
         for second in range(20):
             try:
                 self.give(b"list\n", devices=1000)
-                self.desk.unanswered.note_answer(b"list")
-                passed.append(second)
+                self.desk.pending_requests.note_answer(b"list")
+                passed_on.append(second)
             except OSError as error:
                 self.assertEqual(str(error), "too many orders in a short time")
             self.clock.now += 1
-        self.assertEqual(passed, [0, 1, 2, 3, 5, 7, 10, 12, 15, 17])
-        self.assertEqual(self.lines(), ["list"] * len(passed))
+        self.assertEqual(passed_on, [0, 1, 2, 3, 5, 7, 10, 12, 15, 17])
+        self.assertEqual(self.lines(), ["list"] * len(passed_on))
 
     def test_other_orders_count_their_bytes_only(self):
         self.give(b"x\n" * (MAX_BURST // 2), devices=1000)
@@ -356,9 +358,9 @@ class DeskOrders(LogTest):
     def test_a_file_that_replaces_another(self):
         self.write("list\n")
         self.desk.take_change()
-        new = self.site.folder / "new"
-        new.write_text("list\nlist\n")
-        new.rename(self.path)
+        new_path = self.fixture.folder / "new"
+        new_path.write_text("list\nlist\n")
+        new_path.rename(self.path)
         self.assertIs(self.desk.take_change(), DeskChange.REPLACED)
         self.assertIs(self.desk.take_change(), DeskChange.NONE)
 
@@ -390,10 +392,10 @@ class DeskOrders(LogTest):
     def test_a_desk_that_is_longer_than_the_memory(self):
         """Another program has made it so long. The labels that follow are found, a part in each turn."""
         os.truncate(self.path, 1 << 36)
-        with mock.patch.object(Desk, "read", return_value=b"") as read:
+        with mock.patch.object(Desk, "read", return_value=b"") as read_mock:
             self.desk.take_change()
             self.assertEqual(self.desk.appended_orders(b"query "), set())
-        self.assertLessEqual(max(call.args[1] for call in read.mock_calls), 16 << 20)
+        self.assertLessEqual(max(call.args[1] for call in read_mock.mock_calls), 16 << 20)
         os.truncate(self.path, 0)
         self.desk.take_change()
         os.truncate(self.path, (1 << 20) + 100)

@@ -22,34 +22,35 @@ BRIDGE_AVAILABILITY = {"availability": [{"topic": "enogate/hall/status"}], "avai
 ORIGIN = {"name": "enogate-mqtt", "sw": VERSION}
 
 
-def read(messages: dict[str, str]) -> dict[str, dict]:
+def configs_of_messages(messages: dict[str, str]) -> dict[str, dict]:
     """The messages by component and name: `sensor TMP` for the topic homeassistant/sensor/enogate_hall/ID_TMP/config,
     and `sensor teach` for .../enogate_hall/teach/config."""
-    found = {}
+    config_by_key = {}
     for topic, text in messages.items():
-        prefix, component, node, name, end = topic.split("/")
-        assert (prefix, node, end) == ("homeassistant", "enogate_hall", "config"), topic
-        found[f"{component} {name.removeprefix(DEVICE + '_')}"] = json.loads(text)
-    return found
+        prefix, component, node, name, topic_end = topic.split("/")
+        assert (prefix, node, topic_end) == ("homeassistant", "enogate_hall", "config"), topic
+        config_by_key[f"{component} {name.removeprefix(DEVICE + '_')}"] = json.loads(text)
+    return config_by_key
 
 
-def about(eep: str, label: str = "", maker: int | None = None) -> dict:
+def device_about(eep: str, label: str = "", maker: int | None = None) -> dict:
     return discovery.device_description(TOPICS, DEVICE, DEVICE, eep, label, maker)
 
 
-def configs(eep: str, *reported: str, expire_after: int | None = None) -> dict[str, dict]:
+def device_configs(eep: str, *subtopics: str, expire_after: int | None = None) -> dict[str, dict]:
     """The messages of a device with this profile and readings on these subtopics."""
     rows = TABLE.rows_of_profile(eep).values()
-    return read(discovery.device_configs(TOPICS, DEVICE, DEVICE, about(eep), rows, reported, expire_after))
+    return configs_of_messages(discovery.device_configs(TOPICS, DEVICE, DEVICE, device_about(eep), rows, subtopics,
+                                                        expire_after))
 
 
-def result(template: str, value: str) -> str:
+def rendered_template(template: str, template_value: str) -> str:
     """What Home Assistant makes of a value. Only the filters and words of the discovery messages are known: a template
     becomes an expression of Python. tests/around/shown.py asks Jinja itself."""
     def is_number(text):
         return re.fullmatch(r"-?\d+(\.\d+)?", text) is not None
     expression = re.sub(r"value \| (\w+)", r"\1(value)", template.removeprefix("{{").removesuffix("}}").strip())
-    return str(eval(expression, {"is_number": is_number, "float": float, "value": value}))
+    return str(eval(expression, {"is_number": is_number, "float": float, "value": template_value}))
 
 
 class DeviceEntities(unittest.TestCase):
@@ -58,11 +59,12 @@ class DeviceEntities(unittest.TestCase):
     def setUp(self):
         self.maxDiff = None
 
-    def check(self, eep: str, key: str, wanted: dict, *reported: str):
+    def check(self, eep: str, key: str, expected_config: dict, *subtopics: str):
         name = key.split()[1]
-        wanted = {**wanted, **MODULE_AVAILABILITY, "unique_id": f"enogate_hall_{DEVICE}_{name}", "device": about(eep),
-                  "origin": ORIGIN}
-        self.assertEqual(configs(eep, *reported)[key], wanted)
+        expected_config = {**expected_config, **MODULE_AVAILABILITY, "unique_id": f"enogate_hall_{DEVICE}_{name}",
+                           "device": device_about(eep),
+                           "origin": ORIGIN}
+        self.assertEqual(device_configs(eep, *subtopics)[key], expected_config)
 
     def test_a_contact(self):
         self.check("D5-00-01", "binary_sensor CO", {
@@ -138,7 +140,7 @@ class DeviceEntities(unittest.TestCase):
             self.check(eep, "sensor last_seen", {
                 "name": "Last seen", "state_topic": f"{DEVICE_TOPIC}/last_seen", "device_class": "timestamp",
                 "entity_category": "diagnostic", "enabled_by_default": False})
-        self.assertEqual(set(configs("A5-FF-FF")), {"sensor dbm", "sensor last_seen"})
+        self.assertEqual(set(device_configs("A5-FF-FF")), {"sensor dbm", "sensor last_seen"})
 
 
 class Devices(unittest.TestCase):
@@ -148,22 +150,23 @@ class Devices(unittest.TestCase):
         start = {f"{kind}_{number}" for number in [0, 1] for kind in [
             "switch OV", "binary_sensor PF", "binary_sensor PFD", "binary_sensor OC", "sensor EL", "binary_sensor LC"]}
         start |= {"sensor dbm", "sensor last_seen"}
-        self.assertEqual(set(configs("D2-01-12")), start)
-        self.assertEqual(set(configs("D2-01-12", "IO", "OV", "OV/1", "MV_W/0", "MV", "dbm")), start | {"sensor MV_W_0"})
+        self.assertEqual(set(device_configs("D2-01-12")), start)
+        self.assertEqual(set(device_configs("D2-01-12", "IO", "OV", "OV/1", "MV_W/0", "MV", "dbm")),
+                         start | {"sensor MV_W_0"})
 
     def test_channel_30_takes_no_command(self):
-        found = configs("D2-01-0F", "OV/30", "OV/29", "PF/30").keys()
-        self.assertEqual({key for key in found if key.startswith("switch")}, {"switch OV_0", "switch OV_29"})
-        self.assertIn("binary_sensor PF_30", found)
+        config_keys = device_configs("D2-01-0F", "OV/30", "OV/29", "PF/30").keys()
+        self.assertEqual({key for key in config_keys if key.startswith("switch")}, {"switch OV_0", "switch OV_29"})
+        self.assertIn("binary_sensor PF_30", config_keys)
 
     def test_two_readings_of_one_entity(self):
-        self.assertEqual(set(configs("A5-06-01", "ILL", "ILL1", "ILL2")),
+        self.assertEqual(set(device_configs("A5-06-01", "ILL", "ILL1", "ILL2")),
                          {"sensor SVC", "sensor ILL", "sensor dbm", "sensor last_seen"})
 
     def test_every_message(self):
         for eep in ["D5-00-01", "F6-03-01", "A5-08-01", "A5-12-01", "D2-01-02", "D2-01-12", "D2-05-00"]:
-            for key, config in configs(eep, expire_after=60).items():
-                self.assertEqual((config["device"], config["origin"]), (about(eep), ORIGIN), key)
+            for key, config in device_configs(eep, expire_after=60).items():
+                self.assertEqual((config["device"], config["origin"]), (device_about(eep), ORIGIN), key)
                 if not key.startswith("device_automation"):
                     self.assertEqual({name: config[name] for name in MODULE_AVAILABILITY}, MODULE_AVAILABILITY, key)
                     self.assertEqual(config["unique_id"], f"enogate_hall_{DEVICE}_{key.split()[1]}")
@@ -171,25 +174,26 @@ class Devices(unittest.TestCase):
     def test_names_of_gateway_and_device_in_topics(self):
         topics = Topics("roof", "ha/found")
         rows = TABLE.rows_of_profile("F6-01-01").values()
-        found = discovery.device_configs(topics, "0000000A", "0000000A", {}, rows, [], None)
-        self.assertEqual(set(found), {
+        messages = discovery.device_configs(topics, "0000000A", "0000000A", {}, rows, [], None)
+        self.assertEqual(set(messages), {
             "ha/found/event/enogate_roof/0000000A_press/config", "ha/found/sensor/enogate_roof/0000000A_dbm/config",
             "ha/found/sensor/enogate_roof/0000000A_last_seen/config",
             "ha/found/device_automation/enogate_roof/0000000A_press_pressed/config",
             "ha/found/device_automation/enogate_roof/0000000A_press_released/config"})
-        config = json.loads(found["ha/found/event/enogate_roof/0000000A_press/config"])
+        config = json.loads(messages["ha/found/event/enogate_roof/0000000A_press/config"])
         self.assertEqual((config["state_topic"], config["unique_id"], config["availability"]), (
             "enogate/roof/0000000A/press", "enogate_roof_0000000A_press",
             [{"topic": f"enogate/roof/{name}"} for name in ("status", "gateway", "module")]))
 
     def test_a_device_in_place_of_another_one(self):
         """The IDs of its entities are those of the other one; its topics and its number are its own."""
-        about = discovery.device_description(TOPICS, DEVICE, "01800AC1", "D2-01-12", "Lamp", None)
-        self.assertEqual((about["identifiers"], about["serial_number"]), (["enogate_hall_01800AC1"], DEVICE))
+        device_about = discovery.device_description(TOPICS, DEVICE, "01800AC1", "D2-01-12", "Lamp", None)
+        self.assertEqual((device_about["identifiers"], device_about["serial_number"]),
+                         (["enogate_hall_01800AC1"], DEVICE))
         rows = TABLE.rows_of_profile("D2-01-12").values()
-        found = discovery.device_configs(TOPICS, DEVICE, "01800AC1", about, rows, [], None)
-        self.assertEqual({topic.split("/")[3][:9] for topic in found}, {"01800AC1_"})
-        for topic, text in found.items():
+        messages = discovery.device_configs(TOPICS, DEVICE, "01800AC1", device_about, rows, [], None)
+        self.assertEqual({topic.split("/")[3][:9] for topic in messages}, {"01800AC1_"})
+        for topic, text in messages.items():
             config = json.loads(text)
             self.assertEqual(config["unique_id"], f"enogate_hall_{topic.split('/')[3]}")
             self.assertTrue(config["state_topic"].startswith(DEVICE_TOPIC), topic)
@@ -197,9 +201,9 @@ class Devices(unittest.TestCase):
 
     def test_the_text_of_a_message(self):
         rows = TABLE.rows_of_profile("F6-01-01").values()
-        found = discovery.device_configs(TOPICS, DEVICE, DEVICE, {"name": 'Tür "A" \\'}, rows, [], None)
+        messages = discovery.device_configs(TOPICS, DEVICE, DEVICE, {"name": 'Tür "A" \\'}, rows, [], None)
         self.assertEqual(
-            found[f"homeassistant/device_automation/enogate_hall/{DEVICE}_press_released/config"],
+            messages[f"homeassistant/device_automation/enogate_hall/{DEVICE}_press_released/config"],
             '{"automation_type":"trigger","device":{"name":"Tür \\"A\\" \\\\"},'
             f'"origin":{{"name":"enogate-mqtt","sw":"{VERSION}"}},"payload":"released","subtype":"released",'
             f'"topic":"enogate/hall/{DEVICE}/press","type":"button_short_release",'
@@ -209,37 +213,38 @@ class Devices(unittest.TestCase):
 class ExpiryTimes(unittest.TestCase):
     """Which entities expire."""
 
-    def expiring(self, eep: str, *reported: str) -> set[str]:
-        found = {key: config["expire_after"] for key, config in configs(eep, *reported, expire_after=7200).items()
-                 if "expire_after" in config}
-        self.assertEqual(set(found.values()) | {7200}, {7200})
-        return set(found)
+    def expiry_times(self, eep: str, *subtopics: str) -> set[str]:
+        times_by_key = {key: config["expire_after"]
+                        for key, config in device_configs(eep, *subtopics, expire_after=7200).items()
+                        if "expire_after" in config}
+        self.assertEqual(set(times_by_key.values()) | {7200}, {7200})
+        return set(times_by_key)
 
     def test_devices_that_send_at_intervals(self):
-        self.assertEqual(self.expiring("D5-00-01"), {"binary_sensor CO"})
-        self.assertEqual(self.expiring("A5-02-05"), {"sensor TMP"})
-        self.assertEqual(self.expiring("A5-04-01"), {"sensor HUM", "sensor TMP"})
-        self.assertEqual(self.expiring("A5-06-01"), {"sensor SVC", "sensor ILL"})
-        self.assertEqual(self.expiring("A5-07-01"), {"sensor SVC", "binary_sensor PIRS"})
-        self.assertEqual(self.expiring("A5-08-01"), {"sensor SVC", "sensor ILL", "sensor TMP", "binary_sensor PIRS",
-                                                     "binary_sensor OCC"})
-        self.assertEqual(self.expiring("A5-09-04"), {"sensor HUM", "sensor CONC", "sensor TMP"})
-        self.assertEqual(self.expiring("A5-10-05"), {"sensor SP", "sensor TMP", "binary_sensor OCC"})
+        self.assertEqual(self.expiry_times("D5-00-01"), {"binary_sensor CO"})
+        self.assertEqual(self.expiry_times("A5-02-05"), {"sensor TMP"})
+        self.assertEqual(self.expiry_times("A5-04-01"), {"sensor HUM", "sensor TMP"})
+        self.assertEqual(self.expiry_times("A5-06-01"), {"sensor SVC", "sensor ILL"})
+        self.assertEqual(self.expiry_times("A5-07-01"), {"sensor SVC", "binary_sensor PIRS"})
+        self.assertEqual(self.expiry_times("A5-08-01"), {"sensor SVC", "sensor ILL", "sensor TMP", "binary_sensor PIRS",
+                                                         "binary_sensor OCC"})
+        self.assertEqual(self.expiry_times("A5-09-04"), {"sensor HUM", "sensor CONC", "sensor TMP"})
+        self.assertEqual(self.expiry_times("A5-10-05"), {"sensor SP", "sensor TMP", "binary_sensor OCC"})
 
     def test_devices_that_do_not(self):
         for eep in ["F6-01-01", "F6-02-01", "F6-03-01", "A5-12-01", "A5-12-02", "A5-12-03", "D2-01-02", "D2-01-12",
                     "D2-05-00"]:
-            self.assertEqual(self.expiring(eep, "MV_W/0", "MR_W/1"), set(), eep)
+            self.assertEqual(self.expiry_times(eep, "MV_W/0", "MR_W/1"), set(), eep)
 
     def test_times_of_their_own(self):
         for eep, key, seconds in [("D5-00-01", "binary_sensor CO", 5400), ("A5-02-05", "sensor TMP", 3600),
                                   ("A5-07-01", "sensor SVC", 5400), ("A5-06-01", "sensor SVC", 3600)]:
-            self.assertEqual(configs(eep, expire_after=AUTO)[key]["expire_after"], seconds, eep)
-        for key, config in configs("D2-01-12", expire_after=AUTO).items():
+            self.assertEqual(device_configs(eep, expire_after=AUTO)[key]["expire_after"], seconds, eep)
+        for key, config in device_configs("D2-01-12", expire_after=AUTO).items():
             self.assertNotIn("expire_after", config, key)
 
     def test_without_a_time(self):
-        for key, config in configs("A5-08-01", expire_after=None).items():
+        for key, config in device_configs("A5-08-01", expire_after=None).items():
             self.assertNotIn("expire_after", config, key)
 
 
@@ -247,23 +252,23 @@ class DeviceTriggers(unittest.TestCase):
     """The device triggers of switches."""
 
     def triggers(self, eep: str) -> dict[str, dict]:
-        return {key.split()[1]: config for key, config in configs(eep, expire_after=60).items()
+        return {key.split()[1]: config for key, config in device_configs(eep, expire_after=60).items()
                 if key.startswith("device_automation")}
 
     def trigger(self, eep: str, word: str, kind: str) -> dict:
         return {
             "automation_type": "trigger", "type": kind, "subtype": word, "topic": f"{DEVICE_TOPIC}/press",
             "payload": word,
-            "value_template": "{{ value_json.event_type }}", "device": about(eep), "origin": ORIGIN}
+            "value_template": "{{ value_json.event_type }}", "device": device_about(eep), "origin": ORIGIN}
 
     def test_the_triggers_of_each_switch(self):
         for eep, words in [
             ("F6-01-01", ["pressed"]), ("F6-02-02", ["AI", "A0", "BI", "B0", "three_or_four"]),
             ("F6-03-02", ["AI", "A0", "BI", "B0", "CI", "C0", "DI", "D0"]),
         ]:
-            wanted = {f"press_{word}": self.trigger(eep, word, "button_short_press") for word in words}
-            wanted["press_released"] = self.trigger(eep, "released", "button_short_release")
-            self.assertEqual(self.triggers(eep), wanted, eep)
+            expected_triggers = {f"press_{word}": self.trigger(eep, word, "button_short_press") for word in words}
+            expected_triggers["press_released"] = self.trigger(eep, "released", "button_short_release")
+            self.assertEqual(self.triggers(eep), expected_triggers, eep)
 
     def test_no_other_device_has_triggers(self):
         for eep in ["D5-00-01", "A5-08-01", "A5-10-05", "D2-01-12", "D2-05-00"]:
@@ -275,20 +280,21 @@ class GatewayEntities(unittest.TestCase):
 
     def setUp(self):
         self.maxDiff = None
-        self.found = read(discovery.gateway_configs(TOPICS))
+        self.config_by_key = configs_of_messages(discovery.gateway_configs(TOPICS))
 
     def test_its_entities(self):
         device = {"identifiers": ["enogate_hall"], "name": "enogate hall", "model": "enogate", "sw_version": VERSION}
-        self.assertEqual(set(self.found), {
+        self.assertEqual(set(self.config_by_key), {
             "binary_sensor status", "binary_sensor gateway", "binary_sensor module", "switch learn", "sensor readings",
             "sensor responses", "sensor teach", "sensor ignored", "sensor refused"})
-        for key, config in self.found.items():
+        for key, config in self.config_by_key.items():
             self.assertEqual((config.pop("device"), config.pop("origin")), (device, ORIGIN), key)
             self.assertEqual(config.pop("unique_id"), f"enogate_hall_{key.split()[1]}")
 
-    def check(self, key: str, wanted: dict):
-        own = {name: value for name, value in self.found[key].items() if name not in ("device", "origin", "unique_id")}
-        self.assertEqual(own, wanted)
+    def check(self, key: str, expected_config: dict):
+        own_members = {name: member for name, member in self.config_by_key[key].items()
+                       if name not in ("device", "origin", "unique_id")}
+        self.assertEqual(own_members, expected_config)
 
     def test_what_is_connected(self):
         for name, title, available in [("status", "Bridge", {}), ("gateway", "Gateway", BRIDGE_AVAILABILITY),
@@ -317,18 +323,18 @@ class Descriptions(unittest.TestCase):
     """The description of a device."""
 
     def test_a_device(self):
-        self.assertEqual(about("D2-01-12"), {
+        self.assertEqual(device_about("D2-01-12"), {
             "identifiers": ["enogate_hall_01800ABC"], "name": "D2-01-12 01800ABC",
             "model": "Electronic switch, 2 channels (D2-01-12)", "serial_number": "01800ABC",
             "via_device": "enogate_hall"})
 
     def test_its_label(self):
         for label in ["Front door", 'Meter "A" \\', "Tür", "{{ 1 }}"]:
-            self.assertEqual(about("D5-00-01", label)["name"], label)
-            self.assertEqual(about("D5-00-01", label)["serial_number"], "01800ABC")
+            self.assertEqual(device_about("D5-00-01", label)["name"], label)
+            self.assertEqual(device_about("D5-00-01", label)["serial_number"], "01800ABC")
             rows = TABLE.rows_of_profile("D5-00-01").values()
-            found = discovery.device_configs(TOPICS, DEVICE, DEVICE, about("D5-00-01", label), rows, [], None)
-            for text in found.values():
+            messages = discovery.device_configs(TOPICS, DEVICE, DEVICE, device_about("D5-00-01", label), rows, [], None)
+            for text in messages.values():
                 self.assertEqual(json.loads(text)["device"]["name"], label)
                 self.assertNotIn("\n", text)
 
@@ -344,8 +350,8 @@ class Descriptions(unittest.TestCase):
             ("D2-01-00", "Electronic switch, 1 channel"), ("D2-01-0F", "Electronic switch, 1 channel"),
             ("D2-01-10", "Electronic switch, 2 channels"), ("D2-05-00", "Blind control"),
         ]:
-            self.assertEqual(about(eep)["model"], f"{kind} ({eep})")
-        self.assertEqual(about("A5-FF-FF")["model"], "A5-FF-FF")
+            self.assertEqual(device_about(eep)["model"], f"{kind} ({eep})")
+        self.assertEqual(device_about("A5-FF-FF")["model"], "A5-FF-FF")
 
     def test_models_of_actuators_are_those_of_their_entities(self):
         for number in range(0x13):
@@ -353,36 +359,38 @@ class Descriptions(unittest.TestCase):
             rows = TABLE.rows_of_profile(eep)
             kind = {"light": "Dimmer", "switch": "Electronic switch"}[rows["OV", "%"].entity]
             channels = {1: "1 channel", 2: "2 channels"}[rows["OV", "%"].count]
-            self.assertEqual(about(eep)["model"], f"{kind}, {channels} ({eep})")
+            self.assertEqual(device_about(eep)["model"], f"{kind}, {channels} ({eep})")
 
     def test_manufacturers(self):
-        self.assertNotIn("manufacturer", about("D5-00-01"))
+        self.assertNotIn("manufacturer", device_about("D5-00-01"))
         for maker, name in [
             (0x001, "PEHA"), (0x00D, "Eltako"), (70, "NodOn (ID-RF)"), (0, "EnOcean manufacturer ID 0"),
             (2047, "EnOcean manufacturer ID 2047"), (1999, "EnOcean manufacturer ID 1999"),
         ]:
-            self.assertEqual(about("D5-00-01", maker=maker)["manufacturer"], name)
+            self.assertEqual(device_about("D5-00-01", maker=maker)["manufacturer"], name)
 
     def test_the_table_of_manufacturers(self):
         rows = list(share.table_lines("manufacturers"))
         for line in rows:
             self.assertRegex(line, r"^[0-7][0-9A-F]{2}\t\S[^\t]*\S$")
-        numbers = [line[:3] for line in rows]
-        self.assertEqual(numbers, sorted(set(numbers)))
+        manufacturer_ids = [line[:3] for line in rows]
+        self.assertEqual(manufacturer_ids, sorted(set(manufacturer_ids)))
         self.assertEqual(len({line[4:] for line in rows}), len(rows))
-        self.assertLess(int(numbers[-1], 16), 2047)
+        self.assertLess(int(manufacturer_ids[-1], 16), 2047)
 
 
 class Templates(unittest.TestCase):
     """What Home Assistant makes of values and of words."""
 
-    def check(self, template: str, wanted: dict[str, str]):
-        self.assertEqual({value: result(template, value) for value in wanted}, wanted)
+    def check(self, template: str, expected_results: dict[str, str]):
+        self.assertEqual({template_value: rendered_template(template, template_value)
+                          for template_value in expected_results},
+                         expected_results)
 
     def test_a_number(self):
-        same = {value: value for value in ["0", "20.0784", "-40", "4294967295"]}
-        self.check(discovery.NUMBER_OR_NONE_TEMPLATE, {**same, "unknown": "None", "out_of_range": "None"})
-        self.check(discovery.NUMBER_OR_NOTHING_TEMPLATE, {**same, "unknown": "", "out_of_range": ""})
+        unchanged_values = {template_value: template_value for template_value in ["0", "20.0784", "-40", "4294967295"]}
+        self.check(discovery.NUMBER_OR_NONE_TEMPLATE, {**unchanged_values, "unknown": "None", "out_of_range": "None"})
+        self.check(discovery.NUMBER_OR_NOTHING_TEMPLATE, {**unchanged_values, "unknown": "", "out_of_range": ""})
 
     def test_a_switch(self):
         self.check(discovery.ON_OFF_OR_NONE_TEMPLATE, {
@@ -412,8 +420,9 @@ class Manufacturers(unittest.TestCase):
             (0x04A, "Caleffi"), (0x053, "Oventrop"), (0x05C, "Hoppe"), (0x05D, "Siegenia-Aubi"), (0x7FF, None),
         ):
             with self.subTest(maker):
-                found = discovery.device_description(TOPICS, DEVICE, DEVICE, "D5-00-01", "", maker)["manufacturer"]
-                self.assertEqual(found, name or f"EnOcean manufacturer ID {maker}")
+                manufacturer = discovery.device_description(TOPICS, DEVICE, DEVICE, "D5-00-01", "",
+                                                            maker)["manufacturer"]
+                self.assertEqual(manufacturer, name or f"EnOcean manufacturer ID {maker}")
 
 
 if __name__ == "__main__":

@@ -5,7 +5,7 @@ import random
 import unittest
 
 from enogate_lines.contents import BadLine, Strange, content_of
-from fakes import OK, LogTest, BridgeSite, learned, listing, reading, status
+from fakes import OK, LogTest, BridgeFixture, learned, listing, reading, status
 
 SEED, ROUNDS, LINES = 76, 40, 100
 RESPONSE = {"code": 0, "data": "FF800000", "name": "OK", "type": "response"}
@@ -23,75 +23,77 @@ ODD_NUMBERS = (-1, 0, 1, 255, 256, 2048, 2 ** 31, 2 ** 63, 2 ** 64, -2 ** 63 - 1
 WRONG_VALUES = (*ODD_TEXTS, *ODD_NUMBERS, True, None, [], {}, [[]], [{}], ["x"], {"x": 1})
 
 
-def members_of(value):
+def members_of(json_value):
     """Each object or list within this value, with its keys."""
-    keys = list(value) if isinstance(value, dict) else list(range(len(value))) if isinstance(value, list) else []
-    found = [(value, key) for key in keys]
-    return found + [member for key in keys for member in members_of(value[key])]
+    length = len(json_value) if isinstance(json_value, list) else 0
+    keys = list(json_value) if isinstance(json_value, dict) else list(range(length))
+    places = [(json_value, key) for key in keys]
+    return places + [member for key in keys for member in members_of(json_value[key])]
 
 
-def random_line(chance):
+def random_line(rng):
     """A line of a gateway with wrong members, or with wrong bytes."""
-    members = json.loads(json.dumps(chance.choice(VALID_LINES)))
-    for _ in range(chance.choice((0, 1, 1, 1, 2))):
-        place, key = chance.choice(members_of(members))
-        if chance.random() < 0.15:
-            del place[key]
+    members = json.loads(json.dumps(rng.choice(VALID_LINES)))
+    for _ in range(rng.choice((0, 1, 1, 1, 2))):
+        container, key = rng.choice(members_of(members))
+        if rng.random() < 0.15:
+            del container[key]
         else:
-            place[key] = copy.deepcopy(chance.choice(WRONG_VALUES))
+            container[key] = copy.deepcopy(rng.choice(WRONG_VALUES))
         if not members:
             break
     line = bytearray(json.dumps(members).encode())
-    for _ in range(chance.choice((0, 0, 0, 1, 3))):
-        at = chance.randrange(len(line) + 1)
-        line[at:at + chance.choice((0, 1, 1, 9))] = chance.randbytes(chance.choice((0, 1, 1, 9)))
+    for _ in range(rng.choice((0, 0, 0, 1, 3))):
+        index = rng.randrange(len(line) + 1)
+        line[index:index + rng.choice((0, 1, 1, 9))] = rng.randbytes(rng.choice((0, 1, 1, 9)))
     return bytes(line).replace(b"\n", b"")
 
 
-def texts_of(value):
+def texts_of(content):
     """The texts in a value: those of its members, and of theirs."""
-    if isinstance(value, str):
-        return [value]
-    members = vars(value).values() if hasattr(value, "__dict__") else value if isinstance(value, (tuple, list)) else ()
+    if isinstance(content, str):
+        return [content]
+    members = vars(content).values() if hasattr(content, "__dict__") else content if isinstance(content,
+                                                                                                (tuple, list)) else ()
     return [text for member in members for text in texts_of(member)]
 
 
 class RandomLines(LogTest):
     def test_their_contents_are_bounded(self):
-        chance, decoded = random.Random(SEED), 0
+        rng, decoded_count = random.Random(SEED), 0
         for _ in range(ROUNDS * LINES):
-            line = random_line(chance)
+            line = random_line(rng)
             try:
                 content = content_of(line)
             except BadLine:
                 continue
             if not isinstance(content, Strange):
-                decoded += 1
+                decoded_count += 1
                 for text in texts_of(content):
                     self.assertTrue(text.isascii() and (text == "" or text.isprintable()), line)
                     self.assertLess(len(text), 200, line)
-        self.assertGreater(decoded, ROUNDS * LINES // 10)
+        self.assertGreater(decoded_count, ROUNDS * LINES // 10)
 
     def test_none_ends_the_bridge(self):
-        site, chance = BridgeSite(self), random.Random(SEED)
-        site.start()
-        site.broker.accept_connection()
+        fixture, rng = BridgeFixture(self), random.Random(SEED)
+        fixture.start()
+        fixture.broker.accept_connection()
         for _ in range(ROUNDS):
-            with site.lines.open("ab") as file:
-                file.write(b"".join(random_line(chance) + b"\n" for _ in range(LINES)))
-            site.run_turns(30)
-        self.assertEqual([line for line in self.logged if "state" in line], [])
-        for topic, text, _ in site.broker.connection.published:
+            with fixture.lines.open("ab") as file:
+                file.write(b"".join(random_line(rng) + b"\n" for _ in range(LINES)))
+            fixture.run_turns(30)
+        self.assertEqual([line for line in self.logged_lines if "state" in line], [])
+        for topic, text, _ in fixture.broker.connection.published:
             self.assertLess(len(topic.encode()), 200)
             # a discovery message has units such as °C
             self.assertTrue(text.encode().isascii() or topic.startswith("homeassistant/"), text)
-        site.stop()
-        site.broker.lose()
-        site.start()
-        site.broker.accept_connection()
-        site.write_lines(learned("01800AFF"))
-        site.run_turns(30)
-        self.assertIn(json.dumps(learned("01800AFF")), [text for _, text in site.published("enogate/hall/lines")])
+        fixture.stop()
+        fixture.broker.lose()
+        fixture.start()
+        fixture.broker.accept_connection()
+        fixture.write_lines(learned("01800AFF"))
+        fixture.run_turns(30)
+        self.assertIn(json.dumps(learned("01800AFF")), [text for _, text in fixture.published("enogate/hall/lines")])
 
 
 if __name__ == "__main__":

@@ -6,7 +6,7 @@ import unittest
 from enogate_mqtt.health import HEALTH_EVERY, MAX_NAMED_DEVICES
 from enogate_mqtt.state import time_in
 from enogate_tools import VERSION
-from fakes import BridgeSite, LogTest, learned, listing, reading, status
+from fakes import BridgeFixture, LogTest, learned, listing, reading, status
 
 TOPIC = "enogate/hall/health"
 BASE, OTHER_BASE = "FFA1B280", "FF800000"
@@ -22,31 +22,31 @@ class HealthMessages(LogTest):
 
     def setUp(self):
         super().setUp()
-        self.site = BridgeSite(self)
+        self.fixture = BridgeFixture(self)
 
     def start(self, *devices):
         """A bridge that is connected, and has got the list of these devices."""
-        self.site.start()
-        self.site.broker.accept_connection()
-        self.site.run_turns()
-        self.site.write_lines(*listing(*((name, eep, "") for name, eep in devices)))
-        self.site.run_turns()
+        self.fixture.start()
+        self.fixture.broker.accept_connection()
+        self.fixture.run_turns()
+        self.fixture.write_lines(*listing(*((name, eep, "") for name, eep in devices)))
+        self.fixture.run_turns()
 
-    def answer(self, *lines):
+    def write_answers(self, *lines):
         """Gateway and radio module answer, after these lines."""
-        self.site.write_lines(*lines, status(), response(BASE))
-        self.site.run_turns(2)
+        self.fixture.write_lines(*lines, status(), response(BASE))
+        self.fixture.run_turns(2)
 
     def pass_time(self, seconds):
         """The time passes. Gateway and radio module answer all the time."""
         for _ in range(int(seconds // 5)):
-            self.site.write_lines(status(), response(BASE))
-            self.site.wall.now += 5
-            self.site.run_turns(1, 5)
+            self.fixture.write_lines(status(), response(BASE))
+            self.fixture.wall.now += 5
+            self.fixture.run_turns(1, 5)
 
     def messages(self):
         """The messages that were published on this connection."""
-        return [json.loads(text) for _, text in self.site.published(TOPIC)]
+        return [json.loads(text) for _, text in self.fixture.published(TOPIC)]
 
     def last(self):
         return self.messages()[-1]
@@ -54,19 +54,20 @@ class HealthMessages(LogTest):
     def test_the_first_message(self):
         """It is published when it is known whether gateway and stick answer."""
         self.start(("01800ABC", "A5-02-05"))
-        self.site.write_lines(status())
-        self.site.run_turns()
+        self.fixture.write_lines(status())
+        self.fixture.run_turns()
         self.assertEqual(self.messages(), [])
-        self.answer(reading("01800ABC"))
+        self.write_answers(reading("01800ABC"))
         self.assertEqual(self.messages(), [{
             "base": BASE, "gateway": True, "stick": True, "version": VERSION,
             "last_telegram": "2027-01-15T08:00:00+00:00", "last_telegram_seconds": 1_800_000_000,
             "silent": NOBODY, "weak": NOBODY, "low_battery": NOBODY}])
-        self.assertEqual([kept for topic, _, kept in self.site.broker.connection.published if topic == TOPIC], [True])
+        self.assertEqual([is_retained for topic, _, is_retained in self.fixture.broker.connection.published
+                          if topic == TOPIC], [True])
 
     def test_a_gateway_that_does_not_answer(self):
         self.start()
-        self.site.run_turns(4, 5)
+        self.fixture.run_turns(4, 5)
         self.assertEqual(self.messages(), [{
             "base": None, "gateway": False, "stick": False, "version": VERSION, "last_telegram": None,
             "last_telegram_seconds": None, "silent": NOBODY, "weak": NOBODY, "low_battery": NOBODY}])
@@ -75,38 +76,38 @@ class HealthMessages(LogTest):
         """The stick does not count, even if a telegram comes."""
         self.start(("01800ABC", "A5-02-05"))
         for _ in range(20):
-            self.site.write_lines(reading("01800ABC"))
-            self.site.run_turns(1, 5)
+            self.fixture.write_lines(reading("01800ABC"))
+            self.fixture.run_turns(1, 5)
         self.assertEqual((self.last()["gateway"], self.last()["stick"]), (False, False))
 
     def test_a_stick_that_does_not_answer(self):
         self.start()
         for _ in range(4):
-            self.site.write_lines(status())
-            self.site.run_turns(1, 5)
-        self.assertEqual([(one["gateway"], one["stick"], one["base"]) for one in self.messages()],
+            self.fixture.write_lines(status())
+            self.fixture.run_turns(1, 5)
+        self.assertEqual([(message["gateway"], message["stick"], message["base"]) for message in self.messages()],
                          [(True, False, None)])
 
     def test_once_a_minute(self):
         """And only if it has changed, however often it could change."""
         self.start(("01800ABC", "A5-02-05"))
-        self.answer(reading("01800ABC", dbm=-90))
+        self.write_answers(reading("01800ABC", dbm=-90))
         for dbm in range(-80, -60):
             self.pass_time(5)
-            self.answer(reading("01800ABC", dbm=dbm))
-        self.assertEqual([one["weak"]["count"] for one in self.messages()], [1, 0])
+            self.write_answers(reading("01800ABC", dbm=dbm))
+        self.assertEqual([message["weak"]["count"] for message in self.messages()], [1, 0])
         self.pass_time(60)
         count = len(self.messages())
         self.pass_time(600)
         self.assertEqual(len(self.messages()), count)
-        self.answer(reading("01800ABC"))
+        self.write_answers(reading("01800ABC"))
         self.pass_time(60)
         self.assertEqual(len(self.messages()), count + 1)
         self.assertEqual(HEALTH_EVERY, 60)
 
     def test_silent_devices(self):
         self.start(("01800AB1", "A5-02-05"), ("01800AB2", "A5-02-05"), ("01800AB3", "F6-02-01"))
-        self.answer(reading("01800AB1"), reading("01800AB3", "F6-02-01", [{"name": "R1", "word": "AI"}]))
+        self.write_answers(reading("01800AB1"), reading("01800AB3", "F6-02-01", [{"name": "R1", "word": "AI"}]))
         self.pass_time(3600)
         self.assertEqual(self.last()["silent"], NOBODY)
         self.pass_time(65)
@@ -115,38 +116,40 @@ class HealthMessages(LogTest):
 
     def test_the_setting_of_home_assistant_changes_nothing(self):
         self.start(("01800AB1", "A5-02-05"))
-        self.site.bridge.devices.expire_after = 10
-        self.answer(reading("01800AB1"))
+        self.fixture.bridge.devices.expire_after = 10
+        self.write_answers(reading("01800AB1"))
         self.pass_time(120)
         self.assertEqual(self.last()["silent"], NOBODY)
 
     def test_low_batteries(self):
         self.start(("01800AB1", "A5-06-01"), ("01800AB2", "A5-06-01"), ("01800AB3", "A5-06-01"))
         volts = [{"den": 10, "name": "SVC", "num": 24, "unit": "V"}]
-        self.answer(reading("01800AB1", "A5-06-01", volts), reading("01800AB2", "A5-06-01", [{**volts[0], "num": 25}]),
-                    reading("01800AB3", "A5-06-01", [{"name": "SVC", "out_of_range": 255}]))
+        self.write_answers(reading("01800AB1", "A5-06-01", volts),
+                           reading("01800AB2", "A5-06-01", [{**volts[0], "num": 25}]),
+                           reading("01800AB3", "A5-06-01", [{"name": "SVC", "out_of_range": 255}]))
         self.assertEqual(self.last()["low_battery"], {"count": 1, "ids": ["01800AB1"]})
 
     def test_many_devices(self):
         names = [f"018000{number:02X}" for number in range(MAX_NAMED_DEVICES + 9)]
         self.start(*((name, "A5-02-05") for name in names))
-        self.answer(*(reading(name, dbm=-99) for name in reversed(names)))
+        self.write_answers(*(reading(name, dbm=-99) for name in reversed(names)))
         self.assertEqual(self.last()["weak"], {"count": len(names), "ids": names[:MAX_NAMED_DEVICES]})
         self.assertEqual(MAX_NAMED_DEVICES, 50)
 
     def test_a_device_that_is_removed(self):
         self.start(("01800ABC", "A5-02-05"))
-        self.answer(reading("01800ABC", dbm=-99))
-        self.site.write_lines(learned("01800ABC", result="deleted"))
+        self.write_answers(reading("01800ABC", dbm=-99))
+        self.fixture.write_lines(learned("01800ABC", result="deleted"))
         self.pass_time(65)
         self.assertEqual((self.last()["weak"], self.last()["last_telegram"]), (NOBODY, None))
 
     def test_the_base_id(self):
         """It is that of the last answer. An answer from before the start may be that of another stick."""
-        self.site.write_lines(response(OTHER_BASE))
+        self.fixture.write_lines(response(OTHER_BASE))
         self.start()
-        self.site.write_lines(status(), response(BASE, 1), response("0102"), response('FFA1B2"}'), response("FF800001"))
-        self.site.run_turns(2)
+        self.fixture.write_lines(status(), response(BASE, 1), response("0102"), response('FFA1B2"}'),
+                                 response("FF800001"))
+        self.fixture.run_turns(2)
         self.assertEqual(self.last()["base"], None)
         self.pass_time(65)
         self.assertEqual(self.last()["base"], BASE)
@@ -154,37 +157,38 @@ class HealthMessages(LogTest):
     def test_a_new_connection(self):
         """The message is published again only if the broker has another one, or none."""
         self.start()
-        self.answer()
-        self.site.broker.accept_connection()
-        self.site.run_turns()
+        self.write_answers()
+        self.fixture.broker.accept_connection()
+        self.fixture.run_turns()
         self.assertEqual(self.messages(), [])
-        self.site.broker.memory[TOPIC] = "{}"
-        self.site.broker.accept_connection()
-        self.site.run_turns()
+        self.fixture.broker.memory[TOPIC] = "{}"
+        self.fixture.broker.accept_connection()
+        self.fixture.run_turns()
         self.assertEqual(self.messages(), [])
         self.pass_time(65)
         self.assertEqual(len(self.messages()), 1)
-        del self.site.broker.memory[TOPIC]
-        self.site.broker.accept_connection()
-        self.site.run_turns()
+        del self.fixture.broker.memory[TOPIC]
+        self.fixture.broker.accept_connection()
+        self.fixture.run_turns()
         self.assertEqual(len(self.messages()), 1)
 
     def test_somebody_else_publishes_there(self):
         self.start()
-        self.answer()
+        self.write_answers()
         for text in (b"{}", b""):
-            self.site.send(TOPIC, text)
-            self.site.run_turns()
+            self.fixture.send(TOPIC, text)
+            self.fixture.run_turns()
         self.assertEqual(len(self.messages()), 3)
         self.assertEqual(self.messages()[0], self.last())
 
     def test_hostile_texts(self):
         """No text of a line or of the broker gets into the message, unless its form is checked."""
-        evil = 'x","evil":"\\"}\n'
+        hostile_text = 'x","evil":"\\"}\n'
         self.start(("01800ABC", "A5-02-05"))
-        self.answer({**listing(("01800ABC", "A5-02-05", evil))[0]}, reading("01800ABC", readings=[
-            {"name": "SVC", "word": "evil\""}]), {**status(), "mode": evil}, response(evil), f'{{"type":"{evil}"}}')
-        self.assertNotIn("evil", self.site.published(TOPIC)[-1][1])
+        self.write_answers({**listing(("01800ABC", "A5-02-05", hostile_text))[0]}, reading("01800ABC", readings=[
+            {"name": "SVC", "word": "evil\""}]), {**status(), "mode": hostile_text}, response(hostile_text),
+            f'{{"type":"{hostile_text}"}}')
+        self.assertNotIn("evil", self.fixture.published(TOPIC)[-1][1])
         self.assertEqual(len(self.last()), 9)
 
     def test_times_that_the_broker_retains(self):
@@ -192,12 +196,13 @@ class HealthMessages(LogTest):
         for text, seconds in (("evil", None), ("9999-12-31T23:59:59+00:00", None), ("0001-01-01T00:00:00", None),
                               ("2027-01-15T08:00:00", None), ("2027-01-15T07:59:59+00:00", 1_799_999_999)):
             with self.subTest(text):
-                self.site = BridgeSite(self)
-                self.site.broker.memory["enogate/hall/01800ABC/last_seen"] = text
+                self.fixture = BridgeFixture(self)
+                self.fixture.broker.memory["enogate/hall/01800ABC/last_seen"] = text
                 self.start(("01800ABC", "A5-02-05"))
-                self.site.run_turns(10)
-                self.answer()
-                self.assertEqual(self.site.bridge.devices.known["01800ABC"].reported, {"last_seen": text})
+                self.fixture.run_turns(10)
+                self.write_answers()
+                known_devices = self.fixture.bridge.devices.known_devices
+                self.assertEqual(known_devices["01800ABC"].last_readings, {"last_seen": text})
                 self.assertEqual(self.last()["last_telegram_seconds"], seconds)
 
     def test_times_without_a_zone(self):
@@ -207,7 +212,7 @@ class HealthMessages(LogTest):
     def test_the_guide(self):
         """Its example has the members of a message."""
         self.start()
-        self.answer()
+        self.write_answers()
         page = (pathlib.Path(__file__).parents[2] / "docs/guide/health.md").read_text("utf-8")
         example = json.loads(next(line for line in page.splitlines() if line.startswith('{"base"')))
         self.assertEqual(example.keys(), self.last().keys())

@@ -31,14 +31,14 @@ class RateLimits(LogTest):
         for number in range(15):
             seldom.warning("line", f"bad {number}")
         seldom.warning("other", "another")
-        self.assertEqual(self.logged, [*(f"WARNING: bad {number}" for number in range(10)), "WARNING: another"])
+        self.assertEqual(self.logged_lines, [*(f"WARNING: bad {number}" for number in range(10)), "WARNING: another"])
         clock.now += 59.9
         seldom.warning("line", "too soon")
-        self.assertEqual(len(self.logged), 11)
+        self.assertEqual(len(self.logged_lines), 11)
         clock.now += 0.1
         seldom.warning("line", "later")
         seldom.warning("line", "and")
-        self.assertEqual(self.logged[11:], ["WARNING: later (6 similar messages before)", "WARNING: and"])
+        self.assertEqual(self.logged_lines[11:], ["WARNING: later (6 similar messages before)", "WARNING: and"])
 
 
 if __name__ == "__main__":

@@ -37,13 +37,13 @@ class OrdersOfMessages(unittest.TestCase):
 
     def test_the_end_of_a_long_line(self):
         """One CR at the end does not count for the length of a line. A valid line has at most 200 bytes."""
-        for length, end, is_valid in (
+        for length, line_end, is_valid in (
             (200, b"\r", True), (201, b"\r", False), (200, b"\r\r", False), (200, b"\r\r\r", False),
             (201, b"\r\r", False), (199, b"\r\r", True), (200, b"\r\rx", False),
         ):
-            with self.subTest((length, end)):
-                given = self.orders("orders", b"x" * length + end).removesuffix(b"\n")
-                self.assertEqual(len(given.removesuffix(b"\r")) <= 200, is_valid)
+            with self.subTest((length, line_end)):
+                orders = self.orders("orders", b"x" * length + line_end).removesuffix(b"\n")
+                self.assertEqual(len(orders.removesuffix(b"\r")) <= 200, is_valid)
 
     def test_the_longest_message(self):
         self.assertEqual(MAX_MESSAGE, 16384)
@@ -72,7 +72,7 @@ class OrdersOfMessages(unittest.TestCase):
 
     def test_what_is_no_command(self):
         channel, blind = "ON, OFF or 0 to 100", "OPEN, CLOSE, STOP or 0 to 100"
-        for subtopic, payloads, expected in (
+        for subtopic, payloads, expected_text in (
             ("01800ABD/OV/0/set",
              (b"on", b"TOGGLE", b"", b"101", b"07", b"+7", b"7.0", b"ON ", b"ON\n", b"\xff", b"OPEN",
                                    "7".encode("utf-16"), "\u0667".encode()), channel),
@@ -80,7 +80,8 @@ class OrdersOfMessages(unittest.TestCase):
             ("learn/set", (b"on", b"", b"1"), "ON or OFF"),
         ):
             for payload in payloads:
-                with self.subTest((subtopic, payload)), self.assertRaisesRegex(InvalidMessage, f" is not {expected}$"):
+                with self.subTest((subtopic, payload)), self.assertRaisesRegex(InvalidMessage,
+                                                                               f" is not {expected_text}$"):
                     self.orders(subtopic, payload)
 
     def test_what_is_no_place(self):

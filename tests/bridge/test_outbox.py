@@ -100,8 +100,8 @@ class BacklogMessages(LogTest):
                                       ("press", "y", False), ("c", "", True)):
             backlog.add(Message(topic, text, retained))
         self.assertEqual(len(backlog), 5)
-        found = [backlog.pop_next() for _ in range(5)]
-        self.assertEqual([(message.topic, message.payload) for message in found],
+        messages = [backlog.pop_next() for _ in range(5)]
+        self.assertEqual([(message.topic, message.payload) for message in messages],
                          [("press", "x"), ("press", "y"), ("a", "2"), ("b", "1"), ("c", "")])
         self.assertEqual(len(backlog), 0)
 

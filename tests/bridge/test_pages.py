@@ -41,8 +41,8 @@ class DocumentedTopicsAndSettings(unittest.TestCase):
     def test_numbers_of_settings(self):
         self.assert_said(f"after {settings.LEARN_FOR} seconds (`MQTT_LEARN_SECONDS`)",
                          f"after {settings.LABEL_WAIT} seconds without one (`MQTT_LABEL_SECONDS`)")
-        for name, number in ("LEARN", settings.LEARN_FOR), ("LABEL", settings.LABEL_WAIT):
-            self.assertIn(f"If it is empty, {number}.\nMQTT_{name}_SECONDS=\n", DEFAULT)
+        for name, default_seconds in ("LEARN", settings.LEARN_FOR), ("LABEL", settings.LABEL_WAIT):
+            self.assertIn(f"If it is empty, {default_seconds}.\nMQTT_{name}_SECONDS=\n", DEFAULT)
         seconds = {row.expires_after(AUTO) for row in Table().rows} - {None}
         self.assertEqual(seconds, {3600, 5400})
         self.assert_said("90 minutes", "60 minutes")
@@ -61,10 +61,11 @@ class DocumentedTopicsAndSettings(unittest.TestCase):
 
     def test_settings(self):
         """Each variable that the bridge reads is in the file of settings, and in the manual page."""
-        read = re.findall(r"MQTT_[A-Z_]+", (ROOT / "contrib/enogate_mqtt/settings.py").read_text(encoding="utf-8"))
+        settings_read = re.findall(r"MQTT_[A-Z_]+",
+                                   (ROOT / "contrib/enogate_mqtt/settings.py").read_text(encoding="utf-8"))
         page = (ROOT / "contrib/enogate-mqtt.1").read_text(encoding="utf-8")
-        self.assertEqual(set(read), set(re.findall(r"^(MQTT_[A-Z_]+)=", DEFAULT, re.MULTILINE)))
-        self.assertEqual(set(read), set(re.findall(r"MQTT_[A-Z_]+", page)))
+        self.assertEqual(set(settings_read), set(re.findall(r"^(MQTT_[A-Z_]+)=", DEFAULT, re.MULTILINE)))
+        self.assertEqual(set(settings_read), set(re.findall(r"MQTT_[A-Z_]+", page)))
 
 
 if __name__ == "__main__":

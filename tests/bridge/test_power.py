@@ -9,9 +9,9 @@ from unittest import mock
 
 from enogate_lines.follow import Follower, ignore_message
 from enogate_mqtt.store import Store
-from fakes import OK, LogTest, BridgeSite, listing, reading
+from fakes import OK, LogTest, BridgeFixture, listing, reading
 
-HALL = "enogate/hall/"
+TOPIC_ROOT = "enogate/hall/"
 HISTORIES = 30
 PRESS = reading("01800AC1", "F6-02-01", [{"name": "R1", "word": "BI"}, {"name": "EB", "word": "pressed"}])
 RELEASE = reading("01800AC1", "F6-02-01", [{"name": "R1", "word": "none"}, {"name": "EB", "word": "released"}])
@@ -26,97 +26,97 @@ class PowerFailures(LogTest):
 
     def setUp(self):
         super().setUp()
-        self.site = BridgeSite(self)
-        self.site.write_lines(*listing(("01800ABC", "D5-00-01", "Door"), ("01800AC1", "F6-02-01", "Switch")))
+        self.fixture = BridgeFixture(self)
+        self.fixture.write_lines(*listing(("01800ABC", "D5-00-01", "Door"), ("01800AC1", "F6-02-01", "Switch")))
         self.connect()
-        self.site.write_lines(PRESS, contact_reading("closed"))
-        self.site.run_turns(30)
-        self.before_the_last = self.site.lines.stat().st_size
-        self.site.write_lines(contact_reading("open"))
-        self.site.run_turns(30)
+        self.fixture.write_lines(PRESS, contact_reading("closed"))
+        self.fixture.run_turns(30)
+        self.bytes_before_last = self.fixture.lines.stat().st_size
+        self.fixture.write_lines(contact_reading("open"))
+        self.fixture.run_turns(30)
         self.assertEqual(len(self.lines()), 3)
 
     def connect(self):
-        self.site.start()
-        self.site.broker.accept_connection()
-        self.site.run_turns(30)
+        self.fixture.start()
+        self.fixture.broker.accept_connection()
+        self.fixture.run_turns(30)
 
     def lose_power(self):
         """Ends the bridge. The next one is started at another boot."""
-        self.site.kill()
-        self.site.boot = "another boot"
+        self.fixture.kill()
+        self.fixture.boot = "another boot"
 
-    def place_back(self, offset, boot="a boot"):
+    def set_back_position(self, offset, boot="a boot"):
         """The state file gets an older position."""
-        follower = Follower(str(self.site.lines), None, ignore_message)
+        follower = Follower(str(self.fixture.lines), None, ignore_message)
         positions = [position for _, position in follower.read()]
-        store = Store(str(self.site.state), self.site.topics.discovery, boot)
-        known = {device.name: device for device in store.devices}
+        store = Store(str(self.fixture.state), self.fixture.topics.discovery, boot)
+        known_devices = {device.name: device for device in store.devices}
         older = next(position for position in positions if position.offset == offset)
-        self.assertTrue(store.save(older, [], known, set()))
+        self.assertTrue(store.save(older, [], known_devices, set()))
         store.close()
 
     def lines(self):
-        return [text for _, text in self.site.published(HALL + "lines")]
+        return [text for _, text in self.fixture.published(TOPIC_ROOT + "lines")]
 
     def assert_nothing_old(self):
         """Nothing that was written before the failure is published, and what comes after it is."""
         self.connect()
-        self.assertEqual((self.lines(), self.site.published(HALL + "01800AC1/press")), ([], []))
-        self.site.write_lines(PRESS, OK)
-        self.site.run_turns(30)
+        self.assertEqual((self.lines(), self.fixture.published(TOPIC_ROOT + "01800AC1/press")), ([], []))
+        self.fixture.write_lines(PRESS, OK)
+        self.fixture.run_turns(30)
         self.assertEqual(self.lines(), [json.dumps(PRESS), json.dumps(OK)])
-        topic = HALL + "01800AC1/press"
-        self.assertEqual(self.site.published(topic), [(topic, '{"event_type":"BI"}')])
+        topic = TOPIC_ROOT + "01800AC1/press"
+        self.assertEqual(self.fixture.published(topic), [(topic, '{"event_type":"BI"}')])
 
     def state(self):
-        return self.site.broker.memory[HALL + "01800ABC/CO"]
+        return self.fixture.broker.memory[TOPIC_ROOT + "01800ABC/CO"]
 
     def test_the_lines_have_lost_more_than_the_state(self):
-        for size in (0, 1, 100, self.before_the_last - 1, self.before_the_last, self.before_the_last + 10):
+        for size in (0, 1, 100, self.bytes_before_last - 1, self.bytes_before_last, self.bytes_before_last + 10):
             with self.subTest(size):
                 self.setUp()
                 self.lose_power()
-                os.truncate(self.site.lines, size)
-                self.site.write_lines("")
+                os.truncate(self.fixture.lines, size)
+                self.fixture.write_lines("")
                 self.assert_nothing_old()
                 self.assertEqual(self.state(), "open")
 
     def test_the_last_lines_are_nul_bytes(self):
-        for ended in (False, True):
-            with self.subTest(ended):
+        for ends_with_lf in (False, True):
+            with self.subTest(ends_with_lf):
                 self.setUp()
                 self.lose_power()
-                with self.site.lines.open("r+b") as file:
+                with self.fixture.lines.open("r+b") as file:
                     size = file.seek(0, os.SEEK_END)
-                    file.seek(self.before_the_last - 20)
+                    file.seek(self.bytes_before_last - 20)
                     file.write(bytes(size + 1000 - file.tell()))
-                if ended:
-                    self.site.write_lines("")
+                if ends_with_lf:
+                    self.fixture.write_lines("")
                 self.assert_nothing_old()
                 self.assertEqual(self.state(), "open")
 
     def test_the_state_has_lost_more_than_the_lines(self):
         self.lose_power()
-        self.place_back(0)
+        self.set_back_position(0)
         self.assert_nothing_old()
-        self.assertEqual((self.state(), self.logged), ("open", []))
+        self.assertEqual((self.state(), self.logged_lines), ("open", []))
 
     def test_the_gateway_is_started_after_the_bridge(self):
         """It truncates the NUL bytes at the end of the lines while the bridge runs."""
-        size = self.site.lines.stat().st_size
+        size = self.fixture.lines.stat().st_size
         self.lose_power()
-        os.truncate(self.site.lines, size + 1000)
+        os.truncate(self.fixture.lines, size + 1000)
         self.connect()
-        os.truncate(self.site.lines, size)
-        self.site.write_lines(*[OK] * 100)
-        self.site.run_turns(30)
+        os.truncate(self.fixture.lines, size)
+        self.fixture.write_lines(*[OK] * 100)
+        self.fixture.run_turns(30)
         self.assertEqual(self.lines(), [json.dumps(OK)] * 100)
-        self.assertEqual(self.logged, [])
+        self.assertEqual(self.logged_lines, [])
 
     def test_the_lines_are_gone(self):
         self.lose_power()
-        self.site.lines.unlink()
+        self.fixture.lines.unlink()
         self.assert_nothing_old()
 
     def test_the_lines_are_another_file(self):
@@ -125,42 +125,42 @@ class PowerFailures(LogTest):
             with self.subTest(boot):
                 self.setUp()
                 self.lose_power()
-                self.site.boot = boot
-                text = self.site.lines.read_text()
-                self.site.lines.rename(self.site.lines.with_name("old"))
-                self.site.lines.write_text(text)
-                self.site.write_lines(contact_reading("closed"))
+                self.fixture.boot = boot
+                text = self.fixture.lines.read_text()
+                self.fixture.lines.rename(self.fixture.lines.with_name("old"))
+                self.fixture.lines.write_text(text)
+                self.fixture.write_lines(contact_reading("closed"))
                 self.assert_nothing_old()
                 self.assertEqual(self.state(), "closed")
                 self.assert_logged("previous file not found, reading from the beginning")
 
     def test_the_lines_were_emptied_while_the_bridge_was_stopped(self):
         """What was written since then sets the states."""
-        self.site.kill()
-        self.site.lines.write_text("")
-        self.site.write_lines(contact_reading("closed"))
+        self.fixture.kill()
+        self.fixture.lines.write_text("")
+        self.fixture.write_lines(contact_reading("closed"))
         self.assert_nothing_old()
         self.assertEqual(self.state(), "closed")
 
     def test_a_bridge_that_is_stopped_while_it_reads_earlier_lines(self):
         """The next one takes none of them for new."""
-        self.site.write_lines(*[PRESS] * 100)
+        self.fixture.write_lines(*[PRESS] * 100)
         self.lose_power()
-        real = Follower.read
+        original = Follower.read
 
         def stop(follower):
-            self.site.bridge.is_stopped = True
-            return real(follower)
+            self.fixture.bridge.is_stopped = True
+            return original(follower)
         with mock.patch("enogate_lines.follow.MAX_READ", 1000), mock.patch.object(Follower, "read", stop):
-            self.site.start()
-        self.site.stop()
+            self.fixture.start()
+        self.fixture.stop()
         self.assert_nothing_old()
 
     def test_a_restart_at_the_same_boot(self):
         """The lines that were not acknowledged, or not saved as acknowledged, are published again."""
-        self.site.kill()
-        self.site.write_lines(RELEASE)
-        self.place_back(self.before_the_last)
+        self.fixture.kill()
+        self.fixture.write_lines(RELEASE)
+        self.set_back_position(self.bytes_before_last)
         self.connect()
         self.assertEqual(self.lines(), [json.dumps(contact_reading("open")), json.dumps(RELEASE)])
 
@@ -168,16 +168,17 @@ class PowerFailures(LogTest):
         """It is the same boot, even if nothing was written meanwhile. Lines of that time are published."""
         self.lose_power()
         self.connect()
-        self.site.kill()
-        self.site.write_lines(PRESS)
+        self.fixture.kill()
+        self.fixture.write_lines(PRESS)
         self.connect()
-        self.assertEqual((self.lines(), self.site.published(HALL + "01800AC1/press")), ([json.dumps(PRESS)], []))
+        self.assertEqual((self.lines(), self.fixture.published(TOPIC_ROOT + "01800AC1/press")),
+                         ([json.dumps(PRESS)], []))
 
     def test_a_state_without_a_boot(self):
         """The state file of a version that stored no boot ID."""
-        self.site.kill()
-        self.site.write_lines(PRESS)
-        self.site.bridge.store.connection.executescript("DROP TABLE boot")
+        self.fixture.kill()
+        self.fixture.write_lines(PRESS)
+        self.fixture.bridge.store.connection.executescript("DROP TABLE boot")
         self.assert_nothing_old()
 
 
@@ -185,87 +186,88 @@ class RandomHistories(LogTest):
     """Random histories of a bridge and of a gateway. Each line is a press of another switch, whose ID is its number."""
 
     def begin(self, seed):
-        self.site, self.chance = BridgeSite(self), random.Random(seed)
-        self.written = self.of_this_boot = self.of_this_run = 0
+        self.fixture, self.rng = BridgeFixture(self), random.Random(seed)
+        self.written_count = self.first_of_boot = self.first_of_run = 0
         self.connections = []
         self.start()
 
     def start(self):
-        self.of_this_run = self.written
-        self.site.lines.touch()
-        self.site.start()
-        self.connections.append((self.of_this_boot, self.of_this_run, self.site.broker.accept_connection()))
-        self.site.run_turns(3)
+        self.first_of_run = self.written_count
+        self.fixture.lines.touch()
+        self.fixture.start()
+        self.connections.append((self.first_of_boot, self.first_of_run, self.fixture.broker.accept_connection()))
+        self.fixture.run_turns(3)
 
     def write(self):
-        for _ in range(self.chance.randrange(1, 20)):
-            self.site.write_lines({**PRESS, "id": f"{self.written:08X}"})
-            self.written += 1
-        self.site.run_turns(self.chance.randrange(3), self.chance.choice((0.1, 3)))
+        for _ in range(self.rng.randrange(1, 20)):
+            self.fixture.write_lines({**PRESS, "id": f"{self.written_count:08X}"})
+            self.written_count += 1
+        self.fixture.run_turns(self.rng.randrange(3), self.rng.choice((0.1, 3)))
 
     def rotate(self):
         """The file of the position that is saved is not rotated twice: it would be compressed."""
-        saved = self.site.bridge.saved
-        if saved and self.site.lines.exists() and saved.inode == self.site.lines.stat().st_ino:
-            self.site.lines.rename(f"{self.site.lines}.1")
-            self.site.run_turns(self.chance.randrange(6))
+        rotated_path = self.fixture.bridge.saved_state
+        if rotated_path and self.fixture.lines.exists() and rotated_path.inode == self.fixture.lines.stat().st_ino:
+            self.fixture.lines.rename(f"{self.fixture.lines}.1")
+            self.fixture.run_turns(self.rng.randrange(6))
 
     def stop(self):
-        self.site.stop()
+        self.fixture.stop()
         self.start()
 
     def kill(self):
-        self.site.kill()
+        self.fixture.kill()
         self.start()
 
     def lose_power(self):
         """The state is older, or the lines have lost their end, or have NUL bytes there."""
-        self.site.kill()
-        self.site.bridge.store.close()
-        older = self.site.folder / "older.db"
-        if older.exists() and self.chance.random() < 0.5:
-            shutil.copy(older, self.site.state)
-        shutil.copy(self.site.state, older)
-        if self.site.lines.exists() and self.chance.random() < 0.8:
-            size = self.site.lines.stat().st_size
-            left = self.chance.randrange(size + 1)
-            os.truncate(self.site.lines, left)
-            if self.chance.random() < 0.5:
-                os.truncate(self.site.lines, self.chance.randrange(left, size + 5000))
-            if self.chance.random() < 0.5 or not self.site.lines.read_bytes().endswith(b"\0"):
+        self.fixture.kill()
+        self.fixture.bridge.store.close()
+        older = self.fixture.folder / "older.db"
+        if older.exists() and self.rng.random() < 0.5:
+            shutil.copy(older, self.fixture.state)
+        shutil.copy(self.fixture.state, older)
+        if self.fixture.lines.exists() and self.rng.random() < 0.8:
+            size = self.fixture.lines.stat().st_size
+            bytes_left = self.rng.randrange(size + 1)
+            os.truncate(self.fixture.lines, bytes_left)
+            if self.rng.random() < 0.5:
+                os.truncate(self.fixture.lines, self.rng.randrange(bytes_left, size + 5000))
+            if self.rng.random() < 0.5 or not self.fixture.lines.read_bytes().endswith(b"\0"):
                 # the start of the gateway ends the last line
-                self.site.write_lines("")
-        self.of_this_boot, self.site.boot = self.written, f"boot {self.written}"
+                self.fixture.write_lines("")
+        self.first_of_boot, self.fixture.boot = self.written_count, f"boot {self.written_count}"
         self.start()
 
     def numbers(self, connection, topic):
         """The numbers of the presses that were published on this connection, on `lines` or as events."""
-        texts = [f"{it[0]} {it[1]}" for it in connection.published if it[0].endswith(topic)]
+        texts = [f"{message[0]} {message[1]}" for message in connection.published if message[0].endswith(topic)]
         return [int(re.search('/([0-9A-F]{8})/press|"id": "([0-9A-F]{8})"', text)[1 if topic == "/press" else 2], 16)
                 for text in texts]
 
     def check(self):
         """Each press is an event once at most, in the run in which it was written, and on `lines` at least once, but
         never after the boot in which it was written. Without a failure that is in the sequence of the presses."""
-        for of_this_boot, of_this_run, connection in self.connections:
+        for first_of_boot, events_of_run, connection in self.connections:
             events = self.numbers(connection, "/press")
             lines = self.numbers(connection, "/lines")
             self.assertEqual(events, sorted(set(events)))
             self.assertEqual(lines, sorted(set(lines)))
-            self.assertTrue(all(number >= of_this_run for number in events), (of_this_run, events))
-            self.assertTrue(all(number >= of_this_boot for number in lines), (of_this_boot, lines))
-        found = {number for *_, connection in self.connections for number in self.numbers(connection, "/lines")}
-        self.assertEqual(found & set(range(self.of_this_boot, self.written)),
-                         set(range(self.of_this_boot, self.written)))
+            self.assertTrue(all(number >= events_of_run for number in events), (events_of_run, events))
+            self.assertTrue(all(number >= first_of_boot for number in lines), (first_of_boot, lines))
+        published_numbers = {number for *_, connection in self.connections
+                             for number in self.numbers(connection, "/lines")}
+        self.assertEqual(published_numbers & set(range(self.first_of_boot, self.written_count)),
+                         set(range(self.first_of_boot, self.written_count)))
 
     def test_random_histories(self):
-        acts = (self.write, self.write, self.write, self.rotate, self.stop, self.kill, self.lose_power)
+        actions = (self.write, self.write, self.write, self.rotate, self.stop, self.kill, self.lose_power)
         for seed in range(HISTORIES):
             with self.subTest(seed):
                 self.begin(seed)
-                for act in self.chance.choices(acts, k=12):
-                    act()
-                self.site.run_turns(20)
+                for action in self.rng.choices(actions, k=12):
+                    action()
+                self.fixture.run_turns(20)
                 self.check()
 
 

@@ -1,7 +1,7 @@
 """Actuators are asked for their states after a start of the gateway."""
 import unittest
 
-from fakes import OK, LogTest, BridgeSite, learned, listing, reading, status
+from fakes import OK, LogTest, BridgeFixture, learned, listing, reading, status
 
 RESPONSE = {"code": 0, "data": "FF800000", "name": "OK", "type": "response"}
 # A device of each kind, and how it is asked, if it is an actuator.
@@ -18,35 +18,36 @@ class ActuatorQueries(LogTest):
 
     def setUp(self):
         super().setUp()
-        self.site = BridgeSite(self)
+        self.fixture = BridgeFixture(self)
         self.devices = [(device, eep, "") for device, eep, _ in DEVICES_AND_QUERIES]
         self.silent = ()
 
     def start(self, has_broker=True):
-        self.seen = len(self.site.orders())
-        self.site.start(asks_actuators=True)
+        self.handled_order_count = len(self.fixture.orders())
+        self.fixture.start(asks_actuators=True)
         if has_broker:
-            self.site.broker.accept_connection()
+            self.fixture.broker.accept_connection()
 
     def run_for(self, seconds):
         """The queries that are given within these seconds, with their seconds."""
-        found = []
+        times_and_orders = []
         for second in range(seconds):
-            self.site.run_turns(1, 1)
-            orders, self.seen = self.site.orders()[self.seen:], len(self.site.orders())
+            self.fixture.run_turns(1, 1)
+            orders = self.fixture.orders()[self.handled_order_count:]
+            self.handled_order_count = len(self.fixture.orders())
             for order in orders:
                 if order.split()[0] not in self.silent:
                     answer = {"list": listing(*self.devices), "status": [status()], "base": [OK, RESPONSE]}
-                    self.site.write_lines(*answer.get(order, [OK]))
-            found += [(second, order) for order in orders if order.startswith("query")]
-        return found
+                    self.fixture.write_lines(*answer.get(order, [OK]))
+            times_and_orders += [(second, order) for order in orders if order.startswith("query")]
+        return times_and_orders
 
     def queries(self, seconds):
         return [query for _, query in self.run_for(seconds)]
 
     def restart_gateway(self):
-        self.site.desk.write_text("")
-        self.seen = 0
+        self.fixture.desk.write_text("")
+        self.handled_order_count = 0
 
     def test_each_kind_of_actuator_is_asked_once(self):
         self.start()
@@ -57,22 +58,22 @@ class ActuatorQueries(LogTest):
         """One each second, and each once, although none answers."""
         self.devices = MANY_ACTUATORS
         self.start(has_broker=False)
-        found = self.run_for(1100)
-        wanted = {f"query {device} 30" for device, _, _ in MANY_ACTUATORS}
-        self.assertEqual({query for _, query in found} ^ wanted, set())
-        times = [second for second, _ in found]
-        self.assertEqual(len(times), 1000)
-        self.assertEqual(len(set(times)), len(times))
-        self.assertLess(times[-1], 1010)
-        self.assertEqual(self.site.orders().count("list"), 1)
+        times_and_orders = self.run_for(1100)
+        expected_queries = {f"query {device} 30" for device, _, _ in MANY_ACTUATORS}
+        self.assertEqual({query for _, query in times_and_orders} ^ expected_queries, set())
+        query_times = [second for second, _ in times_and_orders]
+        self.assertEqual(len(query_times), 1000)
+        self.assertEqual(len(set(query_times)), len(query_times))
+        self.assertLess(query_times[-1], 1010)
+        self.assertEqual(self.fixture.orders().count("list"), 1)
 
     def test_turns_are_more_often(self):
         """As in a running bridge."""
         self.start()
         self.run_for(2)
-        before = len(self.site.orders())
-        self.site.run_turns(10, 0.1)
-        self.assertEqual(len(self.site.orders()) - before, 1)
+        order_count = len(self.fixture.orders())
+        self.fixture.run_turns(10, 0.1)
+        self.assertEqual(len(self.fixture.orders()) - order_count, 1)
 
     def test_not_before_the_list(self):
         self.silent = ("list",)
@@ -102,15 +103,15 @@ class ActuatorQueries(LogTest):
     def test_a_gateway_that_is_offline(self):
         """It is asked nothing. If it was not started again, the rest is asked when it answers again."""
         self.start()
-        found = self.queries(5)
-        self.assertTrue(0 < len(found) < len(QUERIES))
+        queries = self.queries(5)
+        self.assertTrue(0 < len(queries) < len(QUERIES))
         self.silent = ("list", "status", "base", "query")
-        found += self.queries(10)
-        self.assertIs(self.site.bridge.requests.gateway.is_online, False)
+        queries += self.queries(10)
+        self.assertIs(self.fixture.bridge.requests.gateway_probe.is_online, False)
         self.assertEqual(self.queries(300), [])
         self.silent = ()
-        found += self.queries(300)
-        self.assertEqual(found, QUERIES)
+        queries += self.queries(300)
+        self.assertEqual(queries, QUERIES)
 
     def test_a_gateway_that_reads_no_orders(self):
         """Its readings show that the module works, but not that it carries out orders."""
@@ -119,11 +120,11 @@ class ActuatorQueries(LogTest):
         self.run_for(5)
         self.silent = ("list", "status", "base", "query")
         self.run_for(10)
-        self.assertIs(self.site.bridge.requests.gateway.is_online, False)
+        self.assertIs(self.fixture.bridge.requests.gateway_probe.is_online, False)
         for _ in range(10):
-            self.site.write_lines(reading("01800000", "D2-01-12", [{"name": "IO", "raw": 0}]))
+            self.fixture.write_lines(reading("01800000", "D2-01-12", [{"name": "IO", "raw": 0}]))
             self.assertEqual(self.queries(3), [])
-        self.assertIs(self.site.bridge.requests.module.is_online, True)
+        self.assertIs(self.fixture.bridge.requests.module_probe.is_online, True)
         self.silent = ()
         self.assertTrue(self.queries(100))
 
@@ -138,33 +139,33 @@ class ActuatorQueries(LogTest):
     def test_a_start_of_the_bridge(self):
         """It asks the rest, and none again."""
         self.start()
-        found = self.queries(5)
-        self.assertTrue(0 < len(found) < len(QUERIES))
+        queries = self.queries(5)
+        self.assertTrue(0 < len(queries) < len(QUERIES))
         for _ in range(3):
-            self.site.stop()
-            self.site.broker.lose()
+            self.fixture.stop()
+            self.fixture.broker.lose()
             self.start()
-            found += self.queries(30)
-        self.assertEqual(found, QUERIES)
+            queries += self.queries(30)
+        self.assertEqual(queries, QUERIES)
 
     def test_a_new_actuator(self):
         """It is asked once, also if it is removed and learned again."""
         self.devices = []
         self.start()
         self.assertEqual(self.queries(60), [])
-        self.site.write_lines(learned("01800A07", "D2-01-12"))
+        self.fixture.write_lines(learned("01800A07", "D2-01-12"))
         self.assertEqual(self.queries(10), ["query 01800A07 30"])
-        self.site.write_lines(learned("01800A07", "D2-01-12", result="deleted"))
+        self.fixture.write_lines(learned("01800A07", "D2-01-12", result="deleted"))
         self.assertEqual(self.queries(10), [])
-        self.site.write_lines(learned("01800A07", "D2-01-12"))
+        self.fixture.write_lines(learned("01800A07", "D2-01-12"))
         self.assertEqual(self.queries(60), [])
 
     def test_a_query_that_cannot_be_given(self):
         self.start()
         self.run_for(2)
-        self.site.bridge.desk.append = lambda _order: (_ for _ in ()).throw(OSError("file is full"))
+        self.fixture.bridge.desk.append = lambda _order: (_ for _ in ()).throw(OSError("file is full"))
         self.assertEqual(self.queries(3), [])
-        del self.site.bridge.desk.append
+        del self.fixture.bridge.desk.append
         self.assertEqual(self.queries(60), QUERIES)
 
     def test_orders_of_others_do_not_wait(self):
@@ -172,15 +173,15 @@ class ActuatorQueries(LogTest):
         self.start()
         self.run_for(10)
         for _ in range(10):
-            self.site.send("enogate/hall/01800001/OV/0/set", b"ON")
-            before = len(self.site.orders())
-            self.site.run_turns(1, 0.1)
-            self.assertEqual(self.site.orders()[before], "switch 01800001 0 on")
+            self.fixture.send("enogate/hall/01800001/OV/0/set", b"ON")
+            order_count = len(self.fixture.orders())
+            self.fixture.run_turns(1, 0.1)
+            self.assertEqual(self.fixture.orders()[order_count], "switch 01800001 0 on")
 
     def test_no_queries(self):
-        self.seen = 0
-        self.site.start()
-        self.site.broker.accept_connection()
+        self.handled_order_count = 0
+        self.fixture.start()
+        self.fixture.broker.accept_connection()
         self.assertEqual(self.queries(120), [])
 
 

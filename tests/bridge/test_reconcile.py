@@ -18,8 +18,8 @@ class ReconciledParts(unittest.TestCase):
 
     def test_a_flood_is_not_stored(self):
         part = Part("x", ["a/+", "b"])
-        for number in range(MAX_UNKNOWN + 10):
-            part.note_retained(f"a/{number}", "x")
+        for topic_number in range(MAX_UNKNOWN + 10):
+            part.note_retained(f"a/{topic_number}", "x")
         part.note_retained("b", "y")
         self.assertEqual((len(part.retained), part.retained["b"]), (MAX_UNKNOWN + 1, "y"))
         part.note_retained("a/0", "new")
@@ -27,8 +27,8 @@ class ReconciledParts(unittest.TestCase):
 
     def test_a_topic_that_comes_often_is_no_flood(self):
         part = Part("x", ["a/+"])
-        for number in range(MAX_UNKNOWN + 10):
-            part.note_retained("a/1", str(number))
+        for topic_number in range(MAX_UNKNOWN + 10):
+            part.note_retained("a/1", str(topic_number))
         part.note_retained("a/2", "y")
         self.assertEqual(part.retained, {"a/1": str(MAX_UNKNOWN + 9), "a/2": "y"})
 
@@ -36,14 +36,14 @@ class ReconciledParts(unittest.TestCase):
 class ReconcilerTurns(LogTest):
     def setUp(self):
         super().setUp()
-        self.clock, self.connection, self.compared = Clock(), FakeConnection({"x/1": "one", "x/2": "two",
-                                                                              "y/1": "three"}), []
-        self.reconciler = Reconciler(self.clock, self.compared.append)
+        self.clock, self.connection, self.compared_parts = Clock(), FakeConnection({"x/1": "one", "x/2": "two",
+                                                                                    "y/1": "three"}), []
+        self.reconciler = Reconciler(self.clock, self.compared_parts.append)
 
     def turn(self, seconds=0.1):
         self.reconciler.turn(self.connection)
         self.connection.turn(0)
-        received, self.connection.received = self.connection.received, []
+        received, self.connection.received_messages = self.connection.received_messages, []
         for message in received:
             self.reconciler.handle_retained(message.topic, message.payload.decode())
         self.clock.now += seconds
@@ -52,35 +52,35 @@ class ReconcilerTurns(LogTest):
         self.reconciler.add([Part("x", ["x/+"]), Part("y", ["y/1", "y/2"])])
         for _ in range(4):
             self.turn()
-        self.assertEqual([(part.name, part.retained) for part in self.compared],
+        self.assertEqual([(part.name, part.retained) for part in self.compared_parts],
                          [("x", {"x/1": "one", "x/2": "two"}), ("y", {"y/1": "three"})])
         self.assertTrue(self.reconciler.is_done)
 
     def test_few_parts_at_the_same_time(self):
         self.assertEqual(MAX_PARTS, 8)
         self.reconciler.add(Part(str(number), [f"{number}/+"]) for number in range(50))
-        most = 0
+        max_active_parts = 0
         while not self.reconciler.is_done:
             self.turn()
-            most = max(most, len(self.reconciler.active))
-        self.assertEqual((most, len(self.compared)), (8, 50))
+            max_active_parts = max(max_active_parts, len(self.reconciler.active_parts))
+        self.assertEqual((max_active_parts, len(self.compared_parts)), (8, 50))
 
     def test_a_large_part_is_alone(self):
         self.reconciler.add([Part("a", ["a/+"]), Part("all", ["+/+"], is_large=True), Part("b", ["b/+"])])
-        seen = []
+        active_names = []
         while not self.reconciler.is_done:
             self.turn()
-            seen.append([part.name for part in self.reconciler.active])
-        self.assertEqual([names for number, names in enumerate(seen) if names != seen[number - 1]],
+            active_names.append([part.name for part in self.reconciler.active_parts])
+        self.assertEqual([names for number, names in enumerate(active_names) if names != active_names[number - 1]],
                          [["a"], ["all"], ["b"], []])
 
     def test_the_subscription_ends_before_the_comparison(self):
         self.reconciler.add([Part("x", ["x/+"])])
         self.turn()
         self.turn()
-        self.assertEqual(self.compared, [])
+        self.assertEqual(self.compared_parts, [])
         self.turn()
-        self.assertEqual(len(self.compared), 1)
+        self.assertEqual(len(self.compared_parts), 1)
 
     def test_a_broker_that_answers_nothing(self):
         self.connection.answers_requests = False
@@ -88,14 +88,14 @@ class ReconcilerTurns(LogTest):
         self.turn(0)
         self.turn(QUIET_SECONDS - 0.1)
         self.turn(0)
-        self.assertEqual(self.reconciler.active[0].is_cancelled, False)
+        self.assertEqual(self.reconciler.active_parts[0].is_cancelled, False)
         self.turn(0.2)
         self.turn(QUIET_SECONDS - 0.1)
-        self.assertEqual(self.reconciler.active[0].is_cancelled, True)
+        self.assertEqual(self.reconciler.active_parts[0].is_cancelled, True)
         self.turn(0.2)
-        self.assertEqual(self.compared, [])
+        self.assertEqual(self.compared_parts, [])
         self.turn(0)
-        self.assertEqual([part.retained for part in self.compared], [{"x/1": "one", "x/2": "two"}])
+        self.assertEqual([part.retained for part in self.compared_parts], [{"x/1": "one", "x/2": "two"}])
 
     def test_messages_keep_a_part_waiting(self):
         self.connection.answers_requests = False
@@ -104,7 +104,7 @@ class ReconcilerTurns(LogTest):
         for _ in range(10):
             self.reconciler.handle_retained("x/3", "x")
             self.turn(QUIET_SECONDS - 1)
-        self.assertFalse(self.reconciler.active[0].is_cancelled)
+        self.assertFalse(self.reconciler.active_parts[0].is_cancelled)
 
     def test_a_part_after_a_long_silence(self):
         self.connection.answers_requests = False
@@ -112,21 +112,21 @@ class ReconcilerTurns(LogTest):
         self.reconciler.add([Part("z", ["z/+"])])
         self.turn(QUIET_SECONDS - 0.1)
         self.turn()
-        self.assertFalse(self.reconciler.active[0].is_cancelled)
+        self.assertFalse(self.reconciler.active_parts[0].is_cancelled)
 
     def test_an_answer_for_one_part_keeps_another_one_waiting(self):
         self.connection.answers_requests = False
         self.reconciler.add([Part("x", ["x/+"]), Part("y", ["y/+"])])
         self.turn(0)
-        self.connection.received.clear()
-        one, other = self.reconciler.active
+        self.connection.received_messages.clear()
+        first_part, second_part = self.reconciler.active_parts
         for _ in range(2):
             # the answer to the request, and then that to its cancellation
-            self.connection.unanswered.discard(one.number)
+            self.connection.unanswered_numbers.discard(first_part.request_number)
             self.turn(QUIET_SECONDS - 1)
-        self.assertEqual((self.compared, other.is_cancelled), ([one], False))
+        self.assertEqual((self.compared_parts, second_part.is_cancelled), ([first_part], False))
         self.turn(0)
-        self.assertFalse(other.is_cancelled)
+        self.assertFalse(second_part.is_cancelled)
 
     def test_what_is_published_meanwhile_counts(self):
         self.reconciler.add([Part("x", ["x/+"])])
@@ -137,7 +137,7 @@ class ReconcilerTurns(LogTest):
         self.reconciler.handle_retained("x/2", "two")
         self.turn()
         self.turn()
-        self.assertEqual(self.compared[0].retained, {"x/1": "new", "x/2": "two"})
+        self.assertEqual(self.compared_parts[0].retained, {"x/1": "new", "x/2": "two"})
 
     def test_constants(self):
         self.assertEqual((reconcile.QUIET_SECONDS, reconcile.MAX_UNKNOWN), (5, 1000))

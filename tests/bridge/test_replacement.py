@@ -5,38 +5,38 @@ import sqlite3
 import unittest
 from unittest import mock
 
-from fakes import OK, BridgeSite, LogTest, learned, listing, reading, status
+from fakes import OK, BridgeFixture, LogTest, learned, listing, reading, status
 
 from enogate_lines.follow import Position
 from enogate_mqtt.devices import Device
 from enogate_mqtt.store import Store
 
-OLD, NEW, THIRD = "01800ABC", "01800AC1", "01800AC2"
+OLD_ID, NEW_ID, THIRD_ID = "01800ABC", "01800AC1", "01800AC2"
 EEP, LABEL = "A5-02-05", "Attic"
-WAIT = 60
+LABEL_WAIT_SECONDS = 60
 POSITION = Position(1, 0, b"")
 # The orders of `enogatectl hall replace 01800ABC 01800AC1`, and the line that answers each.
-STEPS = [(f"add {NEW} {EEP}", learned(NEW)), (f"label {NEW} {LABEL}", OK),
-         (f"remove {OLD}", learned(OLD, result="deleted"))]
-ENDS = ("TMP", "dbm", "last_seen")
-CAME = [f"+enogate_hall_{NEW}_{end}" for end in ENDS]
-GONE = [f"-enogate_hall_{OLD}_{end}" for end in ENDS]
+STEPS = [(f"add {NEW_ID} {EEP}", learned(NEW_ID)), (f"label {NEW_ID} {LABEL}", OK),
+         (f"remove {OLD_ID}", learned(OLD_ID, result="deleted"))]
+ENTITY_ENDS = ("TMP", "dbm", "last_seen")
+ADDED_CHANGES = [f"+enogate_hall_{NEW_ID}_{end}" for end in ENTITY_ENDS]
+REMOVED_CHANGES = [f"-enogate_hall_{OLD_ID}_{end}" for end in ENTITY_ENDS]
 
 
 class Client:
     """What a client of Home Assistant's discovery has seen: the entities by their unique IDs, those that were removed
     or came, and the topic of the state of each. It begins with what the broker retains."""
 
-    def __init__(self, site: BridgeSite):
-        self.site, self.seen = site, len(site.broker.connection.published)
+    def __init__(self, fixture: BridgeFixture):
+        self.fixture, self.published_count = fixture, len(fixture.broker.connection.published)
         self.topics: dict[str, str] = {}
         self.states: dict[str, str] = {}
         self.devices: dict[str, str] = {}
         self.changes: list[str] = []
-        self.take(site.broker.memory.items())
+        self.handle_messages(fixture.broker.memory.items())
         self.changes = []
 
-    def take(self, messages) -> None:
+    def handle_messages(self, messages) -> None:
         for topic, text in messages:
             if not topic.startswith("homeassistant/sensor/"):
                 continue
@@ -51,60 +51,61 @@ class Client:
                 self.states[config["unique_id"]] = config["state_topic"]
                 self.devices[config["unique_id"]] = config["device"]["name"]
 
-    def look(self) -> list[str]:
+    def new_changes(self) -> list[str]:
         """The entities that have come and those that were removed."""
-        published = self.site.broker.connection.published
-        self.take((topic, text) for topic, text, _ in published[self.seen:])
-        self.seen = len(published)
+        published = self.fixture.broker.connection.published
+        self.handle_messages((topic, text) for topic, text, _ in published[self.published_count:])
+        self.published_count = len(published)
         return self.changes
 
 
 class Replacement(LogTest):
     def setUp(self) -> None:
         super().setUp()
-        self.site = BridgeSite(self)
-        self.devices = {OLD: (OLD, EEP, LABEL)}
+        self.fixture = BridgeFixture(self)
+        self.devices = {OLD_ID: (OLD_ID, EEP, LABEL)}
         self.start_bridge()
-        self.site.write_lines(*listing(*self.devices.values()), status(), reading(OLD))
-        self.site.run_turns()
-        self.client = Client(self.site)
+        self.fixture.write_lines(*listing(*self.devices.values()), status(), reading(OLD_ID))
+        self.fixture.run_turns()
+        self.client = Client(self.fixture)
 
-    def start_bridge(self, label_wait: int = WAIT) -> None:
-        self.site.start(label_wait=label_wait)
-        self.site.broker.accept_connection()
-        self.site.run_turns()
+    def start_bridge(self, label_wait: int = LABEL_WAIT_SECONDS) -> None:
+        self.fixture.start(label_wait=label_wait)
+        self.fixture.broker.accept_connection()
+        self.fixture.run_turns()
 
     def restart_bridge(self) -> None:
         """The bridge is killed. The client sees all that it publishes."""
-        self.site.kill()
+        self.fixture.kill()
         self.start_bridge()
-        self.client.seen = 0
+        self.client.published_count = 0
 
     def give(self, order: str, line: dict | str) -> None:
         """Somebody gives an order, which the gateway carries out."""
-        with self.site.desk.open("a") as desk:
+        with self.fixture.desk.open("a") as desk:
             desk.write(order + "\n")
-        verb, device, *rest = order.split(" ")
+        verb, device, *order_arguments = order.split(" ")
         if verb == "remove":
             del self.devices[device]
         else:
             eep, label = self.devices.get(device, ("", EEP, ""))[1:]
-            self.devices[device] = (device, *((rest[0], label) if verb == "add" else (eep, rest[0])))
-        self.site.write_lines(line)
+            self.devices[device] = (device,
+                                    *((order_arguments[0], label) if verb == "add" else (eep, order_arguments[0])))
+        self.fixture.write_lines(line)
 
     def answer_lists(self, count: int = 20) -> None:
         """Turns in which the gateway answers each `list` of the bridge, one a second."""
         for _ in range(count):
-            before = self.site.orders().count("list")
-            self.site.run_turns(1, 1)
-            if self.site.orders().count("list") > before:
-                self.site.write_lines(*listing(*self.devices.values()))
+            list_count = self.fixture.orders().count("list")
+            self.fixture.run_turns(1, 1)
+            if self.fixture.orders().count("list") > list_count:
+                self.fixture.write_lines(*listing(*self.devices.values()))
 
-    def assert_replaced(self, states: str = NEW) -> None:
+    def assert_replaced(self, states: str = NEW_ID) -> None:
         """The client has the entities that it had, and no other ones; they show the new device."""
-        self.assertEqual(self.client.look(), [])
-        self.assertEqual(self.client.states[f"enogate_hall_{OLD}_TMP"], f"enogate/hall/{states}/TMP")
-        self.assertEqual(self.client.devices[f"enogate_hall_{OLD}_TMP"], LABEL)
+        self.assertEqual(self.client.new_changes(), [])
+        self.assertEqual(self.client.states[f"enogate_hall_{OLD_ID}_TMP"], f"enogate/hall/{states}/TMP")
+        self.assertEqual(self.client.devices[f"enogate_hall_{OLD_ID}_TMP"], LABEL)
 
     def test_the_orders_at_once(self):
         """The list comes after all of them."""
@@ -112,10 +113,10 @@ class Replacement(LogTest):
             self.give(order, line)
         self.answer_lists()
         self.assert_replaced()
-        self.site.write_lines(reading(NEW))
-        self.site.run_turns()
-        self.assertEqual(self.site.broker.memory[f"enogate/hall/{NEW}/TMP"], "20")
-        self.assertFalse([topic for topic in self.site.broker.memory if topic.startswith(f"enogate/hall/{OLD}/")])
+        self.fixture.write_lines(reading(NEW_ID))
+        self.fixture.run_turns()
+        self.assertEqual(self.fixture.broker.memory[f"enogate/hall/{NEW_ID}/TMP"], "20")
+        self.assertFalse([topic for topic in self.fixture.broker.memory if topic.startswith(f"enogate/hall/{OLD_ID}/")])
 
     def test_each_order_by_itself(self):
         """The list comes before the old device is deleted, too."""
@@ -132,15 +133,16 @@ class Replacement(LogTest):
                 for order, line in STEPS[:count]:
                     self.give(order, line)
                 self.answer_lists()
-                self.assertEqual(self.client.look(), [])
+                self.assertEqual(self.client.new_changes(), [])
                 for _ in range(60):
-                    self.site.run_turns(1, 60)
+                    self.fixture.run_turns(1, 60)
                     self.answer_lists(1)
-                self.assertEqual(sorted(self.client.look()), CAME)
+                self.assertEqual(sorted(self.client.new_changes()), ADDED_CHANGES)
                 for order, line in STEPS[count:]:
                     self.give(order, line)
                 self.answer_lists()
-                self.assertEqual(sorted(self.client.look()), CAME + [f"-{one[1:]}" for one in CAME])
+                self.assertEqual(sorted(self.client.new_changes()),
+                                 ADDED_CHANGES + [f"-{change[1:]}" for change in ADDED_CHANGES])
                 self.client.changes = []
                 self.assert_replaced()
 
@@ -151,7 +153,7 @@ class Replacement(LogTest):
                     self.setUp()
                     for order, line in STEPS[:count]:
                         self.give(order, line)
-                    self.site.run_turns(30 if is_saved else 1)
+                    self.fixture.run_turns(30 if is_saved else 1)
                     self.restart_bridge()
                     for order, line in STEPS[count:]:
                         self.give(order, line)
@@ -160,12 +162,12 @@ class Replacement(LogTest):
 
     def test_a_bridge_that_was_stopped(self):
         """It reads the lines of the orders later."""
-        self.site.stop()
-        self.site.broker.lose()
+        self.fixture.stop()
+        self.fixture.broker.lose()
         for order, line in STEPS:
             self.give(order, line)
         self.start_bridge()
-        self.client.seen = 0
+        self.client.published_count = 0
         self.answer_lists()
         self.assert_replaced()
         # it is known after another restart, too
@@ -174,25 +176,26 @@ class Replacement(LogTest):
         self.assert_replaced()
 
     def test_a_broker_that_is_away(self):
-        self.site.broker.lose()
+        self.fixture.broker.lose()
         for order, line in STEPS:
             self.give(order, line)
         self.answer_lists()
-        self.site.broker.accept_connection()
-        self.client.seen = 0
+        self.fixture.broker.accept_connection()
+        self.client.published_count = 0
         self.answer_lists()
         self.assert_replaced()
 
     def test_without_a_wait(self):
         """The new device is shown until the old one is deleted."""
-        self.site.stop()
-        self.site.broker.lose()
+        self.fixture.stop()
+        self.fixture.broker.lose()
         self.start_bridge(0)
-        self.client = Client(self.site)
+        self.client = Client(self.fixture)
         for order, line in STEPS:
             self.give(order, line)
             self.answer_lists()
-        self.assertEqual(sorted(self.client.look()), CAME + [f"-{one[1:]}" for one in CAME])
+        self.assertEqual(sorted(self.client.new_changes()),
+                         ADDED_CHANGES + [f"-{change[1:]}" for change in ADDED_CHANGES])
         self.client.changes = []
         self.assert_replaced()
 
@@ -201,80 +204,80 @@ class Replacement(LogTest):
         for order, line in STEPS:
             self.give(order, line)
         self.answer_lists()
-        self.give(f"add {OLD} {EEP}", learned(OLD))
-        self.give(f"label {OLD} Cellar", OK)
+        self.give(f"add {OLD_ID} {EEP}", learned(OLD_ID))
+        self.give(f"label {OLD_ID} Cellar", OK)
         self.answer_lists()
-        came = [f"+enogate_hall_{OLD}_2_{end}" for end in ("dbm", "last_seen", "TMP")]
-        self.assertEqual(sorted(self.client.look()), sorted(came))
+        came = [f"+enogate_hall_{OLD_ID}_2_{end}" for end in ("dbm", "last_seen", "TMP")]
+        self.assertEqual(sorted(self.client.new_changes()), sorted(came))
         self.client.changes = []
-        self.give(f"add {THIRD} {EEP}", learned(THIRD))
-        self.give(f"label {THIRD} {LABEL}", OK)
-        self.give(f"remove {NEW}", learned(NEW, result="deleted"))
+        self.give(f"add {THIRD_ID} {EEP}", learned(THIRD_ID))
+        self.give(f"label {THIRD_ID} {LABEL}", OK)
+        self.give(f"remove {NEW_ID}", learned(NEW_ID, result="deleted"))
         self.answer_lists()
-        self.assert_replaced(THIRD)
+        self.assert_replaced(THIRD_ID)
         self.restart_bridge()
         self.answer_lists()
-        self.assert_replaced(THIRD)
-        self.assertEqual(self.client.states[f"enogate_hall_{OLD}_2_TMP"], f"enogate/hall/{OLD}/TMP")
+        self.assert_replaced(THIRD_ID)
+        self.assertEqual(self.client.states[f"enogate_hall_{OLD_ID}_2_TMP"], f"enogate/hall/{OLD_ID}/TMP")
 
     def test_another_profile(self):
         """A device that was shown before replaces only one of its own profile. One that was learned just now replaces
         any: the readings that both have keep their entities."""
-        other = "A5-04-01"
-        self.give(f"add {NEW} {other}", learned(NEW, other))
-        self.give(f"label {NEW} {LABEL}", OK)
+        other_eep = "A5-04-01"
+        self.give(f"add {NEW_ID} {other_eep}", learned(NEW_ID, other_eep))
+        self.give(f"label {NEW_ID} {LABEL}", OK)
         self.answer_lists()
-        self.give(f"remove {OLD}", learned(OLD, result="deleted"))
+        self.give(f"remove {OLD_ID}", learned(OLD_ID, result="deleted"))
         self.answer_lists()
-        self.assertEqual(self.client.look(), [f"+enogate_hall_{OLD}_HUM"])
+        self.assertEqual(self.client.new_changes(), [f"+enogate_hall_{OLD_ID}_HUM"])
         self.client.changes = []
         self.assert_replaced()
-        self.give(f"add {THIRD} {EEP}", learned(THIRD))
+        self.give(f"add {THIRD_ID} {EEP}", learned(THIRD_ID))
         self.answer_lists()
-        self.site.run_turns(2, WAIT)
-        self.give(f"label {THIRD} {LABEL}", OK)
+        self.fixture.run_turns(2, LABEL_WAIT_SECONDS)
+        self.give(f"label {THIRD_ID} {LABEL}", OK)
         self.answer_lists()
-        self.give(f"remove {NEW}", learned(NEW, result="deleted"))
+        self.give(f"remove {NEW_ID}", learned(NEW_ID, result="deleted"))
         self.answer_lists()
-        gone = [f"-enogate_hall_{OLD}_{end}" for end in ("HUM", "TMP", "dbm", "last_seen")]
-        came = [f"+enogate_hall_{THIRD}_{end}" for end in ENDS]
-        self.assertEqual(sorted(self.client.look()), came + gone)
+        removed_changes = [f"-enogate_hall_{OLD_ID}_{end}" for end in ("HUM", "TMP", "dbm", "last_seen")]
+        came = [f"+enogate_hall_{THIRD_ID}_{end}" for end in ENTITY_ENDS]
+        self.assertEqual(sorted(self.client.new_changes()), came + removed_changes)
 
     def test_a_profile_with_fewer_readings(self):
         """The entity of a reading that the new device does not have goes."""
-        other = "A5-04-01"
-        self.give(f"add {NEW} {other}", learned(NEW, other))
-        self.give(f"label {NEW} {LABEL}", OK)
-        self.give(f"remove {OLD}", learned(OLD, result="deleted"))
+        other_eep = "A5-04-01"
+        self.give(f"add {NEW_ID} {other_eep}", learned(NEW_ID, other_eep))
+        self.give(f"label {NEW_ID} {LABEL}", OK)
+        self.give(f"remove {OLD_ID}", learned(OLD_ID, result="deleted"))
         self.answer_lists()
-        self.assertEqual(self.client.look(), [f"+enogate_hall_{OLD}_HUM"])
+        self.assertEqual(self.client.new_changes(), [f"+enogate_hall_{OLD_ID}_HUM"])
         self.client.changes = []
-        self.give(f"add {THIRD} {EEP}", learned(THIRD))
-        self.give(f"label {THIRD} {LABEL}", OK)
-        self.give(f"remove {NEW}", learned(NEW, result="deleted"))
+        self.give(f"add {THIRD_ID} {EEP}", learned(THIRD_ID))
+        self.give(f"label {THIRD_ID} {LABEL}", OK)
+        self.give(f"remove {NEW_ID}", learned(NEW_ID, result="deleted"))
         self.answer_lists()
-        self.assertEqual(self.client.look(), [f"-enogate_hall_{OLD}_HUM"])
+        self.assertEqual(self.client.new_changes(), [f"-enogate_hall_{OLD_ID}_HUM"])
         self.client.changes = []
-        self.assert_replaced(THIRD)
+        self.assert_replaced(THIRD_ID)
 
     def test_a_broker_that_is_asked_meanwhile(self):
         """It answers later what it retains about the old device."""
-        self.site.broker.lose()
-        open_reader = self.site.broker.open_reader
+        self.fixture.broker.lose()
+        open_reader = self.fixture.broker.open_reader
 
         def open_slow_reader():
             reader = open_reader()
             reader.answers_requests = False
             return reader
-        self.site.broker.open_reader = open_slow_reader
-        self.site.broker.accept_connection()
-        self.client.seen = 0
-        self.site.run_turns()
+        self.fixture.broker.open_reader = open_slow_reader
+        self.fixture.broker.accept_connection()
+        self.client.published_count = 0
+        self.fixture.run_turns()
         for order, line in STEPS:
             self.give(order, line)
-        self.site.write_lines(*listing(*self.devices.values()))
-        self.site.run_turns()
-        self.site.bridge.reader.answers_requests = True
+        self.fixture.write_lines(*listing(*self.devices.values()))
+        self.fixture.run_turns()
+        self.fixture.bridge.reader.answers_requests = True
         self.answer_lists(100)
         self.assert_replaced()
 
@@ -283,65 +286,65 @@ class Replacement(LogTest):
         for labels in ([], ["Cellar"], [""], [LABEL, LABEL]):
             with self.subTest(labels):
                 self.setUp()
-                for name, label in zip((NEW, THIRD), labels):
+                for name, label in zip((NEW_ID, THIRD_ID), labels):
                     self.give(f"add {name} {EEP}", learned(name))
                     self.give(f"label {name} {label}", OK)
                 self.answer_lists()
-                self.site.run_turns(2, WAIT)
-                self.client.look()
+                self.fixture.run_turns(2, LABEL_WAIT_SECONDS)
+                self.client.new_changes()
                 self.client.changes = []
-                self.give(f"remove {OLD}", learned(OLD, result="deleted"))
+                self.give(f"remove {OLD_ID}", learned(OLD_ID, result="deleted"))
                 self.answer_lists()
-                self.assertEqual(sorted(self.client.look()), GONE)
+                self.assertEqual(sorted(self.client.new_changes()), REMOVED_CHANGES)
 
     def test_a_device_without_a_label(self):
         """No other one replaces it. Its entities go at once."""
-        self.give(f"label {OLD} ", OK)
-        self.site.write_lines(*listing((OLD, EEP, "")))
-        self.site.run_turns()
-        self.give(f"add {NEW} {EEP}", learned(NEW))
-        self.give(f"remove {OLD}", learned(OLD, result="deleted"))
-        self.site.run_turns(2)
-        self.assertEqual(sorted(self.client.look()), GONE)
+        self.give(f"label {OLD_ID} ", OK)
+        self.fixture.write_lines(*listing((OLD_ID, EEP, "")))
+        self.fixture.run_turns()
+        self.give(f"add {NEW_ID} {EEP}", learned(NEW_ID))
+        self.give(f"remove {OLD_ID}", learned(OLD_ID, result="deleted"))
+        self.fixture.run_turns(2)
+        self.assertEqual(sorted(self.client.new_changes()), REMOVED_CHANGES)
 
     def test_the_readings_go_at_once(self):
         """The entities go after the next list, which is asked for."""
-        self.site.run_turns(10, 2)
-        self.give(f"remove {OLD}", learned(OLD, result="deleted"))
-        before = self.site.orders().count("list")
-        self.site.run_turns(2)
-        self.assertEqual((self.client.look(), self.site.orders().count("list")), ([], before + 1))
-        self.assertFalse([topic for topic in self.site.broker.memory if topic.startswith(f"enogate/hall/{OLD}/")])
-        self.site.run_turns(30)
-        self.site.write_lines(*listing())
-        self.site.run_turns(30)
-        self.assertEqual(sorted(self.client.look()), GONE)
+        self.fixture.run_turns(10, 2)
+        self.give(f"remove {OLD_ID}", learned(OLD_ID, result="deleted"))
+        list_count = self.fixture.orders().count("list")
+        self.fixture.run_turns(2)
+        self.assertEqual((self.client.new_changes(), self.fixture.orders().count("list")), ([], list_count + 1))
+        self.assertFalse([topic for topic in self.fixture.broker.memory if topic.startswith(f"enogate/hall/{OLD_ID}/")])
+        self.fixture.run_turns(30)
+        self.fixture.write_lines(*listing())
+        self.fixture.run_turns(30)
+        self.assertEqual(sorted(self.client.new_changes()), REMOVED_CHANGES)
         self.restart_bridge()
-        self.assertEqual(self.site.bridge.devices.known, {})
+        self.assertEqual(self.fixture.bridge.devices.known_devices, {})
 
     def test_an_old_device_that_is_learned_again_remains(self):
-        self.give(f"add {NEW} {EEP}", learned(NEW))
-        self.give(f"remove {OLD}", learned(OLD, result="deleted"))
-        self.site.run_turns(2)
-        self.give(f"add {OLD} {EEP}", learned(OLD))
-        self.give(f"label {OLD} {LABEL}", OK)
+        self.give(f"add {NEW_ID} {EEP}", learned(NEW_ID))
+        self.give(f"remove {OLD_ID}", learned(OLD_ID, result="deleted"))
+        self.fixture.run_turns(2)
+        self.give(f"add {OLD_ID} {EEP}", learned(OLD_ID))
+        self.give(f"label {OLD_ID} {LABEL}", OK)
         self.answer_lists()
-        self.site.run_turns(2, WAIT)
-        self.assertNotIn(f"-enogate_hall_{OLD}_TMP", self.client.look())
+        self.fixture.run_turns(2, LABEL_WAIT_SECONDS)
+        self.assertNotIn(f"-enogate_hall_{OLD_ID}_TMP", self.client.new_changes())
 
     def test_equal_labels(self):
         """Two devices may have the same label. The second one is shown after the wait."""
-        self.give(f"add {NEW} {EEP}", learned(NEW))
-        self.give(f"label {NEW} {LABEL}", OK)
+        self.give(f"add {NEW_ID} {EEP}", learned(NEW_ID))
+        self.give(f"label {NEW_ID} {LABEL}", OK)
         self.answer_lists()
-        self.assertEqual(self.client.look(), [])
-        self.site.run_turns(2, WAIT)
-        self.assertEqual(sorted(self.client.look()), CAME)
-        self.assertEqual(self.client.devices[f"enogate_hall_{NEW}_TMP"], LABEL)
+        self.assertEqual(self.client.new_changes(), [])
+        self.fixture.run_turns(2, LABEL_WAIT_SECONDS)
+        self.assertEqual(sorted(self.client.new_changes()), ADDED_CHANGES)
+        self.assertEqual(self.client.devices[f"enogate_hall_{NEW_ID}_TMP"], LABEL)
         # a list shows them both again, at once
-        self.site.write_lines(*listing(*self.devices.values()))
-        self.site.run_turns()
-        self.assertEqual(len(self.client.look()), 3)
+        self.fixture.write_lines(*listing(*self.devices.values()))
+        self.fixture.run_turns()
+        self.assertEqual(len(self.client.new_changes()), 3)
 
 
 class StoredIdentities(LogTest):
@@ -349,11 +352,12 @@ class StoredIdentities(LogTest):
 
     def setUp(self) -> None:
         super().setUp()
-        self.path = str(BridgeSite(self).state)
-        self.known = {NEW: Device(NEW, EEP, LABEL, identity=OLD), OLD: Device(OLD, EEP, "", identity=f"{OLD}_2"),
-                      THIRD: Device(THIRD, EEP, "")}
+        self.path = str(BridgeFixture(self).state)
+        self.known_devices = {NEW_ID: Device(NEW_ID, EEP, LABEL, identity=OLD_ID),
+                              OLD_ID: Device(OLD_ID, EEP, "", identity=f"{OLD_ID}_2"),
+                              THIRD_ID: Device(THIRD_ID, EEP, "")}
         store = Store(self.path, "homeassistant")
-        self.assertTrue(store.save(POSITION, set(self.known), self.known, set()))
+        self.assertTrue(store.save(POSITION, set(self.known_devices), self.known_devices, set()))
         store.close()
 
     def identities(self) -> dict[str, str]:
@@ -362,22 +366,22 @@ class StoredIdentities(LogTest):
         return {device.name: device.identity for device in store.devices}
 
     def test_it_is_found_again(self):
-        self.assertEqual(self.identities(), {NEW: OLD, OLD: f"{OLD}_2", THIRD: THIRD})
+        self.assertEqual(self.identities(), {NEW_ID: OLD_ID, OLD_ID: f"{OLD_ID}_2", THIRD_ID: THIRD_ID})
 
     def test_a_device_that_is_deleted(self):
         store = Store(self.path, "homeassistant")
-        store.save(POSITION, {NEW}, {}, set())
-        store.save(POSITION, {NEW}, {NEW: Device(NEW, EEP, LABEL)}, set())
+        store.save(POSITION, {NEW_ID}, {}, set())
+        store.save(POSITION, {NEW_ID}, {NEW_ID: Device(NEW_ID, EEP, LABEL)}, set())
         store.close()
-        self.assertEqual(self.identities(), {NEW: NEW, OLD: f"{OLD}_2", THIRD: THIRD})
+        self.assertEqual(self.identities(), {NEW_ID: NEW_ID, OLD_ID: f"{OLD_ID}_2", THIRD_ID: THIRD_ID})
 
     def test_a_file_that_could_not_be_written(self):
         """It gets the whole state later."""
         with mock.patch.object(sqlite3, "connect", side_effect=sqlite3.OperationalError("disk full")):
             store = Store(self.path, "homeassistant")
-        self.assertTrue(store.save(POSITION, set(), {NEW: Device(NEW, EEP, LABEL)}, set()))
+        self.assertTrue(store.save(POSITION, set(), {NEW_ID: Device(NEW_ID, EEP, LABEL)}, set()))
         store.close()
-        self.assertEqual(self.identities(), {NEW: NEW})
+        self.assertEqual(self.identities(), {NEW_ID: NEW_ID})
 
     def test_an_identity_of_another_form(self):
         """The file is replaced: the identity becomes part of a topic."""
@@ -385,7 +389,7 @@ class StoredIdentities(LogTest):
             with self.subTest(text):
                 self.setUp()
                 with contextlib.closing(sqlite3.connect(self.path)) as connection, connection:
-                    connection.execute("UPDATE identity SET identity = ? WHERE id = ?", (text, NEW))
+                    connection.execute("UPDATE identity SET identity = ? WHERE id = ?", (text, NEW_ID))
                 self.assertEqual(self.identities(), {})
                 self.assert_logged("replacing the file")
 

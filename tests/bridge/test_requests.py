@@ -6,7 +6,7 @@ from enogate_mqtt.desk import Desk
 from enogate_mqtt.requests import ANSWER_WITHIN, MAX_PAUSE, PROBE_AFTER, SILENT_FOR, START_WITHIN, STATUS_EVERY
 from enogate_mqtt.requests import Requests
 from enogate_tools.desk import opens_window
-from fakes import LogTest, BridgeSite
+from fakes import LogTest, BridgeFixture
 
 STATUS = Status("closed", {})
 
@@ -14,19 +14,19 @@ STATUS = Status("closed", {})
 class RequestTimes(LogTest):
     def setUp(self):
         super().setUp()
-        self.site = BridgeSite(self)
-        self.clock = self.site.clock
-        self.requests = self.make()
+        self.fixture = BridgeFixture(self)
+        self.clock = self.fixture.clock
+        self.requests = self.make_requests()
 
-    def make(self, learn_until=None):
-        return Requests(Desk(str(self.site.desk), self.clock), self.clock, self.site.wall, 120, learn_until)
+    def make_requests(self, learn_until=None):
+        return Requests(Desk(str(self.fixture.desk), self.clock), self.clock, self.fixture.wall, 120, learn_until)
 
     def turn(self, seconds=0.0, needs_list=False):
         """The orders that are given after this many seconds."""
         self.clock.now += seconds
-        before = len(self.site.orders())
+        order_count = len(self.fixture.orders())
         self.requests.turn(needs_list)
-        return self.site.orders()[before:]
+        return self.fixture.orders()[order_count:]
 
     def test_at_the_start(self):
         self.assertEqual(self.turn(), ["list", "status"])
@@ -46,21 +46,21 @@ class RequestTimes(LogTest):
 
     def test_an_answer_ends_this(self):
         self.turn()
-        self.requests.list.note_answer()
+        self.requests.list_request.note_answer()
         self.assertEqual(self.times("list", 3000), [])
 
     def test_it_is_asked_for_again_when_it_may_have_changed(self):
         self.turn()
-        self.requests.list.note_answer()
+        self.requests.list_request.note_answer()
         self.assertEqual(self.turn(1000, needs_list=True)[0], "list")
-        self.requests.list.note_answer()
+        self.requests.list_request.note_answer()
         self.turn(1, needs_list=True)
         self.assertEqual(self.times("list", 60)[0], 3)
 
     def test_a_label_asks_for_the_list(self):
         self.turn()
-        self.requests.list.note_answer()
-        with self.site.desk.open("a") as file:
+        self.requests.list_request.note_answer()
+        with self.fixture.desk.open("a") as file:
             file.write("label 01800ABC x\n")
         self.assertEqual(self.turn(100), ["list", "status"])
 
@@ -68,15 +68,15 @@ class RequestTimes(LogTest):
         self.turn()
         self.requests.handle_line(STATUS)
         self.requests.handle_line(Response(0, ""))
-        self.requests.list.note_answer()
+        self.requests.list_request.note_answer()
         self.turn(20)
-        self.site.desk.write_text("")
+        self.fixture.desk.write_text("")
         self.assertEqual(self.turn(1), ["list", "status", "base"])
 
     def test_the_gateway_is_asked_each_minute(self):
         self.turn()
         self.requests.handle_line(STATUS)
-        self.assertTrue(self.requests.gateway.is_online)
+        self.assertTrue(self.requests.gateway_probe.is_online)
         self.assertEqual(self.turn(STATUS_EVERY - 1).count("status"), 0)
         self.assertEqual(self.turn(1).count("status"), 1)
         self.assertEqual(STATUS_EVERY, 60)
@@ -84,40 +84,40 @@ class RequestTimes(LogTest):
     def test_a_gateway_that_does_not_answer(self):
         self.turn()
         self.turn(ANSWER_WITHIN - 0.1)
-        self.assertIsNone(self.requests.gateway.is_online)
+        self.assertIsNone(self.requests.gateway_probe.is_online)
         self.turn(0.1)
-        self.assertIs(self.requests.gateway.is_online, False)
+        self.assertIs(self.requests.gateway_probe.is_online, False)
         self.assert_logged("WARNING: the gateway does not answer: orders are lost until it runs")
         self.times("status", 600)
         self.assert_logged("does not answer")
         self.requests.handle_line(STATUS)
-        self.assertIs(self.requests.gateway.is_online, True)
+        self.assertIs(self.requests.gateway_probe.is_online, True)
         self.assert_logged("INFO: the gateway answers again")
 
     def test_an_unanswered_question_counts_from_the_first(self):
-        self.requests.gateway.every = 10
+        self.requests.gateway_probe.interval = 10
         self.turn()
         self.turn(10)
         self.turn(5)
-        self.assertIs(self.requests.gateway.is_online, False)
+        self.assertIs(self.requests.gateway_probe.is_online, False)
 
     def test_it_may_stop_answering_later(self):
         self.turn()
         self.requests.handle_line(STATUS)
         self.turn(STATUS_EVERY)
         self.turn(ANSWER_WITHIN)
-        self.assertIs(self.requests.gateway.is_online, False)
+        self.assertIs(self.requests.gateway_probe.is_online, False)
 
     def test_the_first_answer_is_not_logged(self):
         self.turn()
         self.requests.handle_line(STATUS)
-        self.assertEqual(self.logged, [])
+        self.assertEqual(self.logged_lines, [])
 
     def test_a_truncated_desk(self):
         self.turn()
         self.turn()
         self.requests.handle_line(STATUS)
-        self.site.desk.write_text("")
+        self.fixture.desk.write_text("")
         self.turn(1)
         self.turn(ANSWER_WITHIN)
         self.assert_logged("desk was truncated: if > was used in place of >>, restart the gateway")
@@ -125,7 +125,7 @@ class RequestTimes(LogTest):
     def test_a_truncated_desk_of_a_gateway_that_was_started(self):
         self.turn()
         self.turn()
-        self.site.desk.write_text("")
+        self.fixture.desk.write_text("")
         self.turn(1)
         self.requests.handle_line(STATUS)
         self.turn(STATUS_EVERY)
@@ -135,9 +135,9 @@ class RequestTimes(LogTest):
     def test_a_replaced_desk(self):
         self.turn()
         self.requests.handle_line(STATUS)
-        new = self.site.folder / "new"
-        new.write_text("")
-        new.rename(self.site.desk)
+        new_path = self.fixture.folder / "new"
+        new_path.write_text("")
+        new_path.rename(self.fixture.desk)
         self.turn(1)
         self.turn(ANSWER_WITHIN)
         self.assert_logged("desk was replaced by another file, which the gateway does not read: restart the gateway")
@@ -147,19 +147,19 @@ class RequestTimes(LogTest):
         module answers `base`, if `module` is one of them."""
         orders = []
         for _ in range(seconds):
-            given = self.turn(1)
-            for order in given:
+            new_orders = self.turn(1)
+            for order in new_orders:
                 if order in answering:
                     self.requests.handle_line({"status": STATUS, "list": EndOfList(0)}.get(order, Other()))
                 if order == "list":
-                    self.requests.list.note_answer()
+                    self.requests.list_request.note_answer()
                 if order == "base" and "module" in answering:
                     self.requests.handle_line(Response(0, "FF800000"))
-            orders += given
+            orders += new_orders
         return orders
 
     def states(self):
-        return self.requests.gateway.is_online, self.requests.module.is_online
+        return self.requests.gateway_probe.is_online, self.requests.module_probe.is_online
 
     def test_the_module(self):
         self.turn()
@@ -168,7 +168,7 @@ class RequestTimes(LogTest):
         self.assertEqual(self.turn(1), ["base"])
         self.requests.handle_line(Response(0, ""))
         self.assertEqual(self.states(), (True, True))
-        self.requests.list.note_answer()
+        self.requests.list_request.note_answer()
         self.assertEqual(self.turn(PROBE_AFTER - 0.1), [])
         self.assertEqual(self.turn(0.1), ["base"])
 
@@ -189,7 +189,7 @@ class RequestTimes(LogTest):
             self.run_for(5)
             self.assertEqual(self.states(), (True, True))
             self.run_for(9)
-            self.assertIs(self.requests.gateway.is_online, False)
+            self.assertIs(self.requests.gateway_probe.is_online, False)
             self.assert_logged("the gateway does not answer")
             self.assertEqual(set(self.run_for(120)), {"status"})
             self.assert_logged("the gateway does not answer")
@@ -217,25 +217,25 @@ class RequestTimes(LogTest):
 
     def test_a_missing_desk(self):
         self.run_for(70, "list", "status", "base", "module")
-        self.site.desk.unlink()
+        self.fixture.desk.unlink()
         with self.assertRaises(FileNotFoundError):
-            self.site.desk.read_text()
+            self.fixture.desk.read_text()
         for _ in range(14):
             self.clock.now += 1
             self.requests.turn(False)
-        self.assertIs(self.requests.gateway.is_online, False)
+        self.assertIs(self.requests.gateway_probe.is_online, False)
 
     def test_an_hour_of_an_idle_building(self):
         """The answers would be a megabyte in a day."""
         orders = self.run_for(3600, "list", "status", "base", "module")
         sizes = {"list": 26, "status": 89, "base": 14 + 60}
         self.assertEqual(self.states(), (True, True))
-        self.assertEqual(self.logged, [])
+        self.assertEqual(self.logged_lines, [])
         self.assertLess(24 * sum(sizes[order] for order in orders), 1_100_000)
         self.assertEqual(orders.count("status"), 61)
 
     def restart(self):
-        self.site.desk.write_text("")
+        self.fixture.desk.write_text("")
         self.turn(1)
 
     def test_a_gateway_may_need_some_seconds_to_start(self):
@@ -247,7 +247,7 @@ class RequestTimes(LogTest):
         self.requests.handle_line(STATUS)
         self.requests.handle_line(Response(0, ""))
         self.run_for(70, "list", "status", "base", "module")
-        self.assertEqual((self.states(), self.logged), ((True, True), []))
+        self.assertEqual((self.states(), self.logged_lines), ((True, True), []))
 
     def test_a_gateway_that_waits_for_its_stick(self):
         """The unit empties the desk two seconds after the end of a gateway, and then waits."""
@@ -255,14 +255,14 @@ class RequestTimes(LogTest):
         self.run_for(2)
         self.restart()
         self.run_for(int(START_WITHIN) + 1)
-        self.assertIs(self.requests.gateway.is_online, False)
+        self.assertIs(self.requests.gateway_probe.is_online, False)
 
     def test_a_gateway_that_is_started_again_and_again(self):
         self.run_for(70, "list", "status", "base", "module")
         for _ in range(5):
             self.run_for(2)
             self.restart()
-        self.assertIs(self.requests.gateway.is_online, False)
+        self.assertIs(self.requests.gateway_probe.is_online, False)
         self.assert_logged("the gateway does not answer")
 
     def test_the_module_of_a_gateway_that_answers_again(self):
@@ -283,11 +283,11 @@ class RequestTimes(LogTest):
         self.turn(1)
         self.requests.handle_line(Other())
         self.turn(SILENT_FOR - 1)
-        self.assertIsNone(self.requests.module.is_online)
+        self.assertIsNone(self.requests.module_probe.is_online)
         self.turn(1)
-        self.assertIs(self.requests.module.is_online, False)
+        self.assertIs(self.requests.module_probe.is_online, False)
         self.requests.handle_line(Response(0, ""))
-        self.assertIs(self.requests.module.is_online, True)
+        self.assertIs(self.requests.module_probe.is_online, True)
 
     def test_a_learn_window_closes(self):
         self.turn()
@@ -298,7 +298,7 @@ class RequestTimes(LogTest):
 
     def test_the_status_is_asked_for_after_a_window_has_closed(self):
         self.turn()
-        self.requests.list.note_answer()
+        self.requests.list_request.note_answer()
         self.requests.handle_line(STATUS)
         self.requests.note_window_orders(b"learn on\n")
         self.turn(1)
@@ -331,7 +331,7 @@ class RequestTimes(LogTest):
                 self.requests.handle_line(STATUS)
                 self.assertTrue(opens_window(orders))
                 self.requests.note_window_orders(orders)
-                self.assertEqual(self.requests.window.end, self.site.wall() + 120)
+                self.assertEqual(self.requests.window.time_of_day, self.fixture.wall() + 120)
                 self.assertIn("status", self.turn(1))
                 self.assertEqual(self.times("learn off", 300), [118])
                 self.assertIsNone(self.requests.window)
@@ -349,34 +349,34 @@ class RequestTimes(LogTest):
     def test_a_window_of_an_earlier_run(self):
         """It is closed at its time, or at once if this has passed. If the time of day was set back, it is not open for
         longer than a window that is opened now."""
-        for seconds, expected in ((-1e9, 0), (-1, 0), (0, 0), (50, 50), (120, 120), (121, 120), (1e9, 120)):
+        for seconds, expected_seconds in ((-1e9, 0), (-1, 0), (0, 0), (50, 50), (120, 120), (121, 120), (1e9, 120)):
             with self.subTest(seconds):
                 self.setUp()
-                self.requests = self.make(self.site.wall() + seconds)
-                self.assertEqual(self.requests.window.end, self.site.wall() + expected)
+                self.requests = self.make_requests(self.fixture.wall() + seconds)
+                self.assertEqual(self.requests.window.time_of_day, self.fixture.wall() + expected_seconds)
                 is_closed = "learn off" in self.turn()
-                self.assertEqual(is_closed, expected == 0)
-                self.assertEqual(self.times("learn off", 300), [expected - 1] if expected else [])
+                self.assertEqual(is_closed, expected_seconds == 0)
+                self.assertEqual(self.times("learn off", 300), [expected_seconds - 1] if expected_seconds else [])
 
     def test_the_window_is_closed_at_the_end(self):
         self.requests.close_window()
-        self.assertEqual(self.site.orders(), [])
+        self.assertEqual(self.fixture.orders(), [])
         self.requests.note_window_orders(b"learn on\n")
         self.requests.close_window()
-        self.assertEqual(self.site.orders(), ["learn off"])
+        self.assertEqual(self.fixture.orders(), ["learn off"])
 
     def test_a_window_that_cannot_be_closed_is_closed_later(self):
         self.turn()
         self.requests.note_window_orders(b"learn on\n")
-        self.site.desk.unlink()
+        self.fixture.desk.unlink()
         self.turn(130)
-        self.site.desk.touch()
+        self.fixture.desk.touch()
         self.assertIn("learn off", self.turn(1))
 
     def test_without_a_desk_nothing_happens(self):
-        self.site.desk.unlink()
+        self.fixture.desk.unlink()
         self.requests.turn(True)
-        self.assertEqual(self.logged, [])
+        self.assertEqual(self.logged_lines, [])
 
     def test_a_list_asks_for_the_status(self):
         self.turn()

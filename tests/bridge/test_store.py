@@ -7,7 +7,7 @@ from unittest import mock
 from enogate_lines.follow import Position
 from enogate_mqtt.devices import Device
 from enogate_mqtt.store import Store
-from fakes import LogTest, BridgeSite
+from fakes import LogTest, BridgeFixture
 
 POSITION = Position(7, 42, b"x\n")
 
@@ -15,7 +15,7 @@ POSITION = Position(7, 42, b"x\n")
 class StateFile(LogTest):
     def setUp(self):
         super().setUp()
-        self.path = BridgeSite(self).state
+        self.path = BridgeFixture(self).state
         self.device = Device("01800ABC", "D5-00-01", "Door", 70, {"CO": "open", "dbm": "-45"})
 
     def open(self, discovery="homeassistant"):
@@ -23,25 +23,27 @@ class StateFile(LogTest):
 
     def test_a_new_file(self):
         store = self.open()
-        self.assertEqual((store.position, store.devices, store.removed, store.old_discovery),
+        self.assertEqual((store.position, store.devices, store.removed_topics, store.old_discovery),
                          (None, [], set(), "homeassistant"))
 
     def test_what_was_saved_is_read(self):
-        other = Device("01800ABD", "A5-02-05")
-        known = {"01800ABC": self.device, "01800ABD": other}
-        self.assertTrue(self.open().save(POSITION, list(known), known, {"a/b"}))
+        other_device = Device("01800ABD", "A5-02-05")
+        known_devices = {"01800ABC": self.device, "01800ABD": other_device}
+        self.assertTrue(self.open().save(POSITION, list(known_devices), known_devices, {"a/b"}))
         store = self.open("other")
-        self.assertEqual((store.position, store.removed, store.old_discovery), (POSITION, {"a/b"}, "homeassistant"))
-        self.assertEqual(sorted(store.devices, key=lambda device: device.name), [self.device, other])
+        self.assertEqual((store.position, store.removed_topics, store.old_discovery),
+                         (POSITION, {"a/b"}, "homeassistant"))
+        self.assertEqual(sorted(store.devices, key=lambda device: device.name), [self.device, other_device])
 
     def test_changes(self):
         store = self.open()
         store.save(POSITION, ["01800ABC"], {"01800ABC": self.device}, {"a", "b"})
         store.save(Position(8, 1, b"y"), [], {}, {"b"})
-        again = self.open()
-        self.assertEqual((again.position, again.devices, again.removed), (Position(8, 1, b"y"), [self.device], {"b"}))
-        again.save(POSITION, ["01800ABC"], {}, set())
-        self.assertEqual((self.open().devices, self.open().removed), ([], set()))
+        second_store = self.open()
+        self.assertEqual((second_store.position, second_store.devices, second_store.removed_topics),
+                         (Position(8, 1, b"y"), [self.device], {"b"}))
+        second_store.save(POSITION, ["01800ABC"], {}, set())
+        self.assertEqual((self.open().devices, self.open().removed_topics), ([], set()))
 
     def test_it_survives_a_power_failure(self):
         store = self.open()
@@ -53,8 +55,9 @@ class StateFile(LogTest):
         store.save(POSITION, ["01800ABC"], {"01800ABC": self.device}, {"a"})
         with mock.patch.object(store, "save_device", side_effect=sqlite3.OperationalError("disk full")):
             self.assertFalse(store.save(Position(9, 9, b""), ["01800ABC"], {}, set()))
-        again = self.open()
-        self.assertEqual((again.position, again.devices, again.removed), (POSITION, [self.device], {"a"}))
+        second_store = self.open()
+        self.assertEqual((second_store.position, second_store.devices, second_store.removed_topics),
+                         (POSITION, [self.device], {"a"}))
 
     def test_a_failure_is_logged_once_and_what_failed_is_saved_later(self):
         store = self.open()
@@ -62,9 +65,9 @@ class StateFile(LogTest):
             for _ in range(3):
                 self.assertFalse(store.save(POSITION, ["01800ABC"], {"01800ABC": self.device}, {"a"}))
         self.assert_logged("ERROR: cannot save the state: disk full")
-        self.assertEqual(store.removed, set())
+        self.assertEqual(store.removed_topics, set())
         self.assertTrue(store.save(POSITION, ["01800ABC"], {"01800ABC": self.device}, {"a"}))
-        self.assertEqual((self.open().devices, self.open().removed), ([self.device], {"a"}))
+        self.assertEqual((self.open().devices, self.open().removed_topics), ([self.device], {"a"}))
         with mock.patch.object(store, "save_device", side_effect=sqlite3.OperationalError("disk full")):
             store.save(POSITION, ["01800ABC"], {}, set())
         self.assert_logged("cannot save the state", 2)
@@ -93,17 +96,17 @@ class StateFile(LogTest):
         self.open().save(POSITION, ["01800ABC"], {"01800ABC": self.device}, {"a"})
         self.sql("DROP TABLE learn")
         store = self.open()
-        self.assertEqual((store.position, store.devices, store.removed, store.learn_until),
+        self.assertEqual((store.position, store.devices, store.removed_topics, store.learn_until),
                          (POSITION, [self.device], {"a"}, None))
         self.assertTrue(store.save(POSITION, [], {}, set(), False, 1.0))
-        self.assertEqual((self.open().learn_until, self.logged), (1.0, []))
+        self.assertEqual((self.open().learn_until, self.logged_lines), (1.0, []))
 
     def test_a_learn_window_of_another_form(self):
-        for value in ("NULL", "'soon'", "x'00'"):
-            with self.subTest(value):
+        for sql_value in ("NULL", "'soon'", "x'00'"):
+            with self.subTest(sql_value):
                 self.setUp()
                 self.open()
-                self.sql(f"INSERT INTO learn VALUES ({value})")
+                self.sql(f"INSERT INTO learn VALUES ({sql_value})")
                 self.assert_replaced("learn window of an unknown form")
 
     def test_a_place_of_another_form(self):
@@ -117,28 +120,28 @@ class StateFile(LogTest):
 
     def test_the_boot(self):
         """A position is of the same boot if its ID is the same, also if there is none."""
-        for saved, now, is_same in (("a", "a", True), ("a", "b", False), ("a", "", False), ("", "", True),
-                                    ("", "a", False)):
-            with self.subTest(saved=saved, now=now):
+        for saved_boot, boot_now, is_same in (("a", "a", True), ("a", "b", False), ("a", "", False), ("", "", True),
+                                              ("", "a", False)):
+            with self.subTest(saved=saved_boot, now=boot_now):
                 self.setUp()
-                self.assertTrue(Store(str(self.path), "", saved).save(POSITION, [], {}, set()))
-                store = Store(str(self.path), "", now)
+                self.assertTrue(Store(str(self.path), "", saved_boot).save(POSITION, [], {}, set()))
+                store = Store(str(self.path), "", boot_now)
                 self.assertEqual((store.is_same_boot, store.position), (is_same, POSITION))
                 store.save(POSITION, [], {}, set())
-                self.assertTrue(Store(str(self.path), "", now).is_same_boot)
+                self.assertTrue(Store(str(self.path), "", boot_now).is_same_boot)
                 self.sql("DELETE FROM boot")
-                self.assertEqual(Store(str(self.path), "", now).is_same_boot, now == "")
+                self.assertEqual(Store(str(self.path), "", boot_now).is_same_boot, boot_now == "")
 
     def test_an_inode_that_is_too_large(self):
         self.assertFalse(self.open().save(Position(2 ** 64, 0, b""), [], {}, set()))
         self.assert_logged("cannot save the state")
 
     def test_topics_that_change_later(self):
-        store, removed = self.open(), {"a"}
-        store.save(POSITION, [], {}, removed)
-        removed.add("b")
-        store.save(POSITION, [], {}, removed)
-        self.assertEqual(self.open().removed, {"a", "b"})
+        store, removed_topics = self.open(), {"a"}
+        store.save(POSITION, [], {}, removed_topics)
+        removed_topics.add("b")
+        store.save(POSITION, [], {}, removed_topics)
+        self.assertEqual(self.open().removed_topics, {"a", "b"})
 
     def assert_replaced(self, reason):
         store = self.open()
@@ -167,11 +170,11 @@ class StateFile(LogTest):
         store.save(POSITION, ["01800ABC"], {"01800ABC": self.device}, set())
         store.connection.execute("PRAGMA wal_checkpoint(TRUNCATE)")
         store.save(Position(8, 1, b"y"), [], {}, {"a"})
-        left = {end: pathlib.Path(f"{self.path}{end}").read_bytes() for end in ("", "-wal")}
+        bytes_by_end = {end: pathlib.Path(f"{self.path}{end}").read_bytes() for end in ("", "-wal")}
         store.connection.close()
-        self.path.write_bytes(b"\xff" * 100 + left[""][100:])
-        pathlib.Path(f"{self.path}-wal").write_bytes(left["-wal"])
-        self.assertGreater(len(left["-wal"]), 1000)
+        self.path.write_bytes(b"\xff" * 100 + bytes_by_end[""][100:])
+        pathlib.Path(f"{self.path}-wal").write_bytes(bytes_by_end["-wal"])
+        self.assertGreater(len(bytes_by_end["-wal"]), 1000)
         self.assert_replaced("file is not a database")
 
     def sql(self, text):
@@ -192,34 +195,36 @@ class StateFile(LogTest):
 
     def test_readings_of_another_form(self):
         long = f'{{"{"x" * 70_000}": ""}}'
-        for reported in ("no JSON", "[]", '{"CO": 3}', "3", '{"CO": "\\ud800"}', '{"C/O": ""}', long):
-            with self.subTest(reported[:40]):
+        for readings in ("no JSON", "[]", '{"CO": 3}', "3", '{"CO": "\\ud800"}', '{"C/O": ""}', long):
+            with self.subTest(readings[:40]):
                 self.setUp()
                 self.open()
-                self.sql(f"INSERT INTO device VALUES ('01800ABC', 'D5-00-01', '', NULL, '{reported}')")
+                self.sql(f"INSERT INTO device VALUES ('01800ABC', 'D5-00-01', '', NULL, '{readings}')")
                 self.assert_replaced("")
 
     def test_readings_of_each_form_are_kept(self):
-        reported = {"CO": "open", "MR_l_s/0": "0.5", "OV/18446744073709551615": "1", "last_seen": "ä \U0001f600"}
-        self.open().save(POSITION, ["01800ABC"], {"01800ABC": Device("01800ABC", "D5-00-01", reported=reported)}, set())
-        self.assertEqual(self.open().devices[0].reported, reported)
-        self.assertEqual(self.logged, [])
+        readings = {"CO": "open", "MR_l_s/0": "0.5", "OV/18446744073709551615": "1", "last_seen": "ä \U0001f600"}
+        self.open().save(POSITION, ["01800ABC"], {"01800ABC": Device("01800ABC", "D5-00-01", last_readings=readings)},
+                         set())
+        self.assertEqual(self.open().devices[0].last_readings, readings)
+        self.assertEqual(self.logged_lines, [])
 
     def test_a_file_that_cannot_be_opened_is_left(self):
         """The bridge runs without it, and says so once. When it can be opened, it gets the whole state."""
         self.path.mkdir()
         store = self.open()
-        self.assertEqual((store.position, store.devices, store.removed, store.may_adopt, store.learn_until),
+        self.assertEqual((store.position, store.devices, store.removed_topics, store.may_adopt, store.learn_until),
                          (None, [], set(), True, None))
         for _ in range(3):
             self.assertFalse(store.save(POSITION, [], {"01800ABC": self.device}, {"a"}))
-        self.assertEqual(self.logged, [
+        self.assertEqual(self.logged_lines, [
             f"ERROR: {self.path}: unable to open database file; continuing without saving the state"])
         self.path.rmdir()
         self.assertTrue(store.save(POSITION, [], {"01800ABC": self.device}, {"a"}, False, 1.0))
-        self.assertEqual(self.logged[1:], [f"INFO: {self.path}: the state is saved again"])
-        again = self.open()
-        self.assertEqual((again.position, again.devices, again.removed, again.may_adopt, again.learn_until),
+        self.assertEqual(self.logged_lines[1:], [f"INFO: {self.path}: the state is saved again"])
+        second_store = self.open()
+        self.assertEqual((second_store.position, second_store.devices, second_store.removed_topics,
+                          second_store.may_adopt, second_store.learn_until),
                          (POSITION, [self.device], {"a"}, False, 1.0))
         store.save(POSITION, ["01800ABC"], {}, set())
         self.assertEqual(self.open().devices, [])
@@ -229,19 +234,20 @@ class StateFile(LogTest):
         class FullDatabase(sqlite3.Connection):
             def executescript(self, _text):
                 raise sqlite3.OperationalError("database or disk is full")
-        real = sqlite3.connect
-        return mock.patch("sqlite3.connect", lambda *words, **named: real(*words, factory=FullDatabase, **named))
+        original_connect = sqlite3.connect
+        return mock.patch("sqlite3.connect", lambda *words, **named: original_connect(*words, factory=FullDatabase,
+                                                                                      **named))
 
     def test_a_file_that_cannot_be_written_is_read(self):
-        other = Device("01800ABD", "A5-02-05")
-        known = {"01800ABC": self.device, "01800ABD": other}
-        self.open().save(POSITION, known, known, {"a"}, False, 1.0)
+        other_device = Device("01800ABD", "A5-02-05")
+        known_devices = {"01800ABC": self.device, "01800ABD": other_device}
+        self.open().save(POSITION, known_devices, known_devices, {"a"}, False, 1.0)
         with self.full():
             store = self.open()
-            self.assertEqual((store.position, store.devices, store.removed, store.may_adopt, store.learn_until),
-                             (POSITION, [self.device, other], {"a"}, False, 1.0))
+            self.assertEqual((store.position, store.devices, store.removed_topics, store.may_adopt, store.learn_until),
+                             (POSITION, [self.device, other_device], {"a"}, False, 1.0))
             self.assertFalse(store.save(POSITION, [], {}, set()))
-        self.assertEqual(self.logged, [
+        self.assertEqual(self.logged_lines, [
             f"ERROR: {self.path}: database or disk is full; continuing without saving the state"])
         self.assertTrue(store.save(Position(8, 1, b"y"), [], {"01800ABC": self.device}, set()))
         self.assertEqual((self.open().position, self.open().devices), (Position(8, 1, b"y"), [self.device]))
@@ -255,16 +261,16 @@ class StateFile(LogTest):
 
     def test_a_file_in_use_is_left(self):
         self.open().save(POSITION, [], {}, set())
-        other = sqlite3.connect(self.path, isolation_level=None)
-        other.execute("BEGIN EXCLUSIVE")
+        other_connection = sqlite3.connect(self.path, isolation_level=None)
+        other_connection.execute("BEGIN EXCLUSIVE")
         with mock.patch("enogate_mqtt.store.LOCK_WAIT", 0):
             store = self.open()
             self.assertFalse(store.save(POSITION, [], {}, {"b"}))
         self.assert_logged("database is locked; continuing without saving the state")
-        other.close()
+        other_connection.close()
         self.assertEqual(self.open().position, POSITION)
         self.assertTrue(store.save(POSITION, [], {}, {"b"}))
-        self.assertEqual(self.open().removed, {"b"})
+        self.assertEqual(self.open().removed_topics, {"b"})
 
 
 if __name__ == "__main__":

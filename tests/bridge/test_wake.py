@@ -15,7 +15,7 @@ from enogate_mqtt import wake
 from enogate_mqtt.connection import Connection
 from enogate_mqtt.settings import Login
 from enogate_mqtt.wake import Waiter
-from fakes import LogTest, Clock, BridgeSite, listing, reading, status
+from fakes import LogTest, Clock, BridgeFixture, listing, reading, status
 from test_connection import TOPICS, fake_paho
 
 HOUR = 3600
@@ -26,14 +26,14 @@ ANSWERS = {"status": [status()], "list": listing(("01800000", "D2-01-12", "lamp"
 class FakeConnection:
     """A connection with these sockets."""
 
-    def __init__(self, reading, writing, has_work=False):
-        self.found, self.works = (reading, writing), has_work
+    def __init__(self, readable_sockets, writable_sockets, has_work=False):
+        self.sockets_of_kinds, self.is_working = (readable_sockets, writable_sockets), has_work
 
     def sockets(self):
-        return self.found
+        return self.sockets_of_kinds
 
     def has_work(self):
-        return self.works
+        return self.is_working
 
 
 class FileWaits(LogTest):
@@ -57,9 +57,9 @@ class FileWaits(LogTest):
 
     def look(self, reading, writing, _, seconds):
         self.seconds, self.reading, self.writing = seconds, reading, writing
-        found = self.select(reading, writing, [], 0)
-        self.is_over = seconds == 0 or any(found)
-        return found
+        ready_files = self.select(reading, writing, [], 0)
+        self.is_over = seconds == 0 or any(ready_files)
+        return ready_files
 
     def start(self):
         """A bridge that has waited before."""
@@ -94,20 +94,20 @@ class FileWaits(LogTest):
 
     def test_messages_end_a_wait(self):
         self.start()
-        near, far = socket.socketpair()
-        self.addCleanup(near.close)
-        self.addCleanup(far.close)
-        connection = FakeConnection([near], [])
+        near_socket, far_socket = socket.socketpair()
+        self.addCleanup(near_socket.close)
+        self.addCleanup(far_socket.close)
+        connection = FakeConnection([near_socket], [])
         self.assertFalse(self.waits(connection))
-        far.send(b"x")
+        far_socket.send(b"x")
         self.assertTrue(self.waits(connection))
 
     def test_what_cannot_be_sent_yet_ends_a_wait(self):
         self.start()
-        near, far = socket.socketpair()
-        self.addCleanup(near.close)
-        self.addCleanup(far.close)
-        self.assertTrue(self.waits(FakeConnection([near], [near])))
+        near_socket, far_socket = socket.socketpair()
+        self.addCleanup(near_socket.close)
+        self.addCleanup(far_socket.close)
+        self.assertTrue(self.waits(FakeConnection([near_socket], [near_socket])))
 
     def test_a_connection_with_work_ends_a_wait(self):
         self.start()
@@ -121,11 +121,11 @@ class FileWaits(LogTest):
 
     def test_without_inotify(self):
         with unittest.mock.patch.object(ctypes, "CDLL", side_effect=OSError("none")):
-            waits = Waiter(["/log/hall.lines"])
-        self.addCleanup(os.close, waits.stops)
-        with unittest.mock.patch.object(wake.select, "select", return_value=([], [], [])) as looked:
-            waits.wait([], 1.0, True)
-        looked.assert_called_once_with([waits.stops], [], [], 0.1)
+            was_waiting = Waiter(["/log/hall.lines"])
+        self.addCleanup(os.close, was_waiting.stops)
+        with unittest.mock.patch.object(wake.select, "select", return_value=([], [], [])) as look_count:
+            was_waiting.wait([], 1.0, True)
+        look_count.assert_called_once_with([was_waiting.stops], [], [], 0.1)
 
 
 class ConnectionWaits(LogTest):
@@ -151,7 +151,7 @@ class ConnectionWaits(LogTest):
             self.assertEqual(self.connection.has_work(), count == 1)
 
     def test_a_message_that_could_not_be_sent(self):
-        self.connection.failure = "broken pipe"
+        self.connection.send_error = "broken pipe"
         self.assertTrue(self.connection.has_work())
 
     def test_a_socket_that_is_closed(self):
@@ -165,47 +165,47 @@ class TurnWaits(LogTest):
 
     def setUp(self):
         super().setUp()
-        self.site = BridgeSite(self)
-        self.site.wait = self.wait
-        self.answers_orders, self.answered, self.ends_at_once = True, 0, False
+        self.fixture = BridgeFixture(self)
+        self.fixture.wait = self.wait
+        self.answers_orders, self.answered_count, self.ends_at_once = True, 0, False
 
-    def wait(self, *waited):
+    def wait(self, *connections):
         """A wait, which lasts a little longer than it was asked for, or ends at once."""
-        self.site.waited = waited
-        self.site.clock.now += 0.001 + (0 if self.ends_at_once else waited[1])
+        self.fixture.wait_calls = connections
+        self.fixture.clock.now += 0.001 + (0 if self.ends_at_once else connections[1])
 
     def turn(self):
         """A turn, after which the gateway answers. Returns how long it has waited."""
-        self.site.run_turns(1, 0)
-        orders = self.site.orders() if self.answers_orders else []
-        for order in orders[self.answered:]:
-            self.site.write_lines(*ANSWERS.get(order, [RESPONSE]))
-        self.answered = len(orders)
-        return round(self.site.waited[1], 6)
+        self.fixture.run_turns(1, 0)
+        orders = self.fixture.orders() if self.answers_orders else []
+        for order in orders[self.answered_count:]:
+            self.fixture.write_lines(*ANSWERS.get(order, [RESPONSE]))
+        self.answered_count = len(orders)
+        return round(self.fixture.wait_calls[1], 6)
 
     def connect_and_settle(self, **options):
-        self.site.start(**options)
-        self.site.broker.accept_connection()
+        self.fixture.start(**options)
+        self.fixture.broker.accept_connection()
         for _ in range(100):
             self.turn()
         # from now on it is silent, until more is wanted
         self.answers_orders = False
         while self.turn() != LONGEST_WAIT:
             pass
-        self.site.bridge.saved_at = self.site.clock()
+        self.fixture.bridge.saved_at = self.fixture.clock()
 
     def waits(self, answers=True):
         """The waits in an hour, in which the gateway answers its orders, or does not."""
         self.answers_orders = answers
-        waits, end = [], self.site.clock() + HOUR
-        while self.site.clock() < end:
+        waits, deadline = [], self.fixture.clock() + HOUR
+        while self.fixture.clock() < deadline:
             waits.append(self.turn())
         return waits
 
     def test_an_idle_bridge(self):
         for asks in (False, True):
             self.connect_and_settle(asks_actuators=asks)
-            self.assertTrue(self.site.bridge.requests.may_ask_actuators())
+            self.assertTrue(self.fixture.bridge.requests.may_ask_actuators())
             waits = self.waits()
             self.assertLess(len(waits), 2 * HOUR)
             self.assertGreater(len(waits), HOUR)
@@ -213,56 +213,57 @@ class TurnWaits(LogTest):
     def test_a_bridge_whose_gateway_does_not_answer(self):
         self.connect_and_settle(asks_actuators=True)
         self.assertLess(len(self.waits(answers=False)), 2 * HOUR)
-        self.assertIs(self.site.bridge.requests.gateway.is_online, False)
+        self.assertIs(self.fixture.bridge.requests.gateway_probe.is_online, False)
 
     def test_a_bridge_without_a_broker(self):
-        self.site.start()
-        self.site.broker.due = math.inf
+        self.fixture.start()
+        self.fixture.broker.due = math.inf
         self.assertLess(len(self.waits()), 2 * HOUR)
 
     def test_the_next_attempt_to_connect(self):
         self.answers_orders = False
-        self.site.start()
+        self.fixture.start()
         self.turn()
         for pause in (0.5, 60.0):
-            self.site.broker.due = self.site.clock() + pause
+            self.fixture.broker.due = self.fixture.clock() + pause
             self.assertEqual(self.turn(), min(pause, 1.0))
 
     def test_an_order_that_is_due(self):
         self.connect_and_settle()
-        requests = self.site.bridge.requests
-        requests.gateway.due = self.site.clock() + 0.25
+        requests = self.fixture.bridge.requests
+        requests.gateway_probe.due = self.fixture.clock() + 0.25
         self.assertEqual(self.turn(), 0.25)
-        self.assertEqual(self.site.orders()[-1], "status")
+        self.assertEqual(self.fixture.orders()[-1], "status")
 
     def test_a_module_that_does_not_respond(self):
         """It is reported at once when the time is over."""
         self.connect_and_settle()
-        requests = self.site.bridge.requests
-        requests.module.due, requests.module.asked = math.inf, self.site.clock() + 0.25 - requests.module.within
+        requests = self.fixture.bridge.requests
+        requests.module_probe.due = math.inf
+        requests.module_probe.asked_at = self.fixture.clock() + 0.25 - requests.module_probe.max_wait
         self.assertEqual(self.turn(), 0.25)
-        self.assertIs(requests.module.is_online, False)
+        self.assertIs(requests.module_probe.is_online, False)
 
     def test_what_is_due_but_cannot_be_done(self):
         """It is tried again, but not without a pause."""
         self.connect_and_settle()
-        self.site.bridge.requests.schedule_window_end(0)
-        self.site.desk.unlink()
-        self.site.desk.mkdir()
+        self.fixture.bridge.requests.schedule_window_end(0)
+        self.fixture.desk.unlink()
+        self.fixture.desk.mkdir()
         self.turn()
         self.assertEqual([self.turn() for _ in range(3)], [POLL_PAUSE] * 3)
 
     def test_something_under_way(self):
         self.connect_and_settle()
-        self.site.broker.connection.acknowledges_messages = False
-        self.site.write_lines(reading("01800000"))
+        self.fixture.broker.connection.acknowledges_messages = False
+        self.fixture.write_lines(reading("01800000"))
         self.turn()
         self.assertEqual([self.turn() for _ in range(3)], [0.0, POLL_PAUSE, POLL_PAUSE])
 
     def test_more_to_read(self):
         """After lines there may be more."""
         self.connect_and_settle()
-        self.site.write_lines(reading("01800000"))
+        self.fixture.write_lines(reading("01800000"))
         self.turn()
         self.assertEqual(self.turn(), 0.0)
         self.assertGreater(self.turn(), 0.0)
@@ -270,36 +271,36 @@ class TurnWaits(LogTest):
     def test_a_rotation(self):
         """The old file may still be written to: events of the new one do not end the wait."""
         self.connect_and_settle()
-        self.site.lines.rename(self.site.lines.with_suffix(".lines.1"))
-        self.site.lines.touch()
+        self.fixture.lines.rename(self.fixture.lines.with_suffix(".lines.1"))
+        self.fixture.lines.touch()
         self.turn()
         self.turn()
-        self.assertEqual(self.site.waited[1:], (POLL_PAUSE, False))
+        self.assertEqual(self.fixture.wait_calls[1:], (POLL_PAUSE, False))
         self.turn()
         self.turn()
-        self.assertIs(self.site.waited[2], True)
+        self.assertIs(self.fixture.wait_calls[2], True)
 
     def test_a_line_that_is_written_to_the_old_file(self):
         """The broker ends each wait at once, but the old file is not left at once."""
         self.connect_and_settle()
-        old = self.site.lines.with_suffix(".lines.1")
-        self.site.lines.rename(old)
-        self.site.write_lines(reading("01800002"))
+        old_path = self.fixture.lines.with_suffix(".lines.1")
+        self.fixture.lines.rename(old_path)
+        self.fixture.write_lines(reading("01800002"))
         self.ends_at_once = True
-        self.site.run_turns(5, 0)
+        self.fixture.run_turns(5, 0)
         self.ends_at_once = False
-        append(old, json.dumps(reading("01800001")).encode() + b"\n")
+        append(old_path, json.dumps(reading("01800001")).encode() + b"\n")
         for _ in range(10):
             self.turn()
-        lines = [json.loads(text) for _, text in self.site.published("enogate/hall/lines")]
+        lines = [json.loads(text) for _, text in self.fixture.published("enogate/hall/lines")]
         self.assertEqual([line["id"] for line in lines if line["type"] == "reading"], ["01800001", "01800002"])
 
     def test_both_connections_are_waited_for(self):
-        self.site.start()
-        publishing = self.site.broker.accept_connection()
+        self.fixture.start()
+        publishing = self.fixture.broker.accept_connection()
         self.turn()
         self.turn()
-        self.assertEqual(self.site.waited, ([publishing, self.site.broker.readers[0]], POLL_PAUSE, True))
+        self.assertEqual(self.fixture.wait_calls, ([publishing, self.fixture.broker.readers[0]], POLL_PAUSE, True))
 
 
 def append(path, text):

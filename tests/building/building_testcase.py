@@ -20,7 +20,7 @@ class Wire:
     """A port that keeps what its gateway gets."""
 
     def __init__(self) -> None:
-        self.received, self.is_plugged_in = b"", False
+        self.received_bytes, self.is_plugged_in = b"", False
 
     def plug(self) -> None:
         self.is_plugged_in = True
@@ -28,28 +28,28 @@ class Wire:
     def unplug(self) -> None:
         self.is_plugged_in = False
 
-    def write(self, data: bytes) -> None:
-        self.received += data if self.is_plugged_in else b""
+    def write(self, stream: bytes) -> None:
+        self.received_bytes += stream if self.is_plugged_in else b""
 
-    def take(self) -> list[tuple[int, bytes, bytes]]:
+    def handle_bytes(self) -> list[tuple[int, bytes, bytes]]:
         """The packets since the last call, as the oracle finds them."""
-        found, self.received = list(packets_in_stream(self.received)), b""
-        return found
+        packets, self.received_bytes = list(packets_in_stream(self.received_bytes)), b""
+        return packets
 
     def telegrams(self) -> list[str]:
         """The telegrams since the last call, each as RORG PAYLOAD SENDER STATUS DESTINATION, without its strength."""
-        return [" ".join(part.hex() for part in (data[:1], data[1:-5], data[-5:-1], data[-1:], optional[1:5])).upper()
-                for kind, data, optional in self.take() if kind == 1]
+        return [" ".join(field.hex() for field in (data[:1], data[1:-5], data[-5:-1], data[-1:], optional[1:5])).upper()
+                for kind, data, optional in self.handle_bytes() if kind == 1]
 
 
-class Even:
+class EvenRandom:
     """A chance without chance: nothing varies."""
 
     def random(self) -> float:
         return 0.5
 
 
-def sent(payload: str, destination: int, base: int = BASE, rorg: int = 0xD2) -> bytes:
+def sent_packet(payload: str, destination: int, base: int = BASE, rorg: int = 0xD2) -> bytes:
     """The packet of an order or a reply of a gateway to a device."""
     data = bytes([rorg]) + bytes.fromhex(payload) + base.to_bytes(4, "big") + b"\0"
     return packet(1, data, b"\x03" + destination.to_bytes(4, "big") + b"\xff\0")
@@ -64,16 +64,16 @@ class BuildingTest(unittest.TestCase):
               place: Place = HERE) -> Building:
         building = Building([Row(device, eep, place, period) for device, eep in devices], 1, is_quiet)
         self.wires = [Wire() for _ in range(sticks)]
-        for number, wire in enumerate(self.wires):
-            building.add_stick(f"stick{number}", HERE, wire)
+        for index, wire in enumerate(self.wires):
+            building.add_stick(f"stick{index}", HERE, wire)
         self.building, self.wire = building, self.wires[0]
         return building
 
     def give(self, payload: str, device: int = DEVICE, base: int = BASE, rorg: int = 0xD2,
              stick: str = "stick0") -> None:
         """A gateway sends this to a device. The response of the module is taken off."""
-        self.building.sticks[stick].take(sent(payload, device, base, rorg))
-        self.assertEqual(self.wires[int(stick[-1])].take()[-1:], [(2, b"\0", b"")])
+        self.building.sticks[stick].handle_bytes(sent_packet(payload, device, base, rorg))
+        self.assertEqual(self.wires[int(stick[-1])].handle_bytes()[-1:], [(2, b"\0", b"")])
 
     def answers(self, seconds: float = 0.1) -> list[str]:
         """What the first stick hears within this time."""

@@ -17,7 +17,7 @@ class TeachInTest(BuildingTest):
         self.assertEqual(self.actuator.owners, set(bases))
 
     def learn(self):
-        self.wire.take()
+        self.wire.handle_bytes()
         self.actuator.teach_in()
         self.assertEqual(self.wire.telegrams(), [f"D4 {QUERY} 01800ABC 00 FFFFFFFF"])
 
@@ -80,11 +80,11 @@ class TeachInTest(BuildingTest):
 
 
 class OutputsTest(BuildingTest):
-    def orders(self, eep, *pairs):
+    def orders(self, eep, *orders_and_answers):
         """Each order has these answers, addressed to the gateway."""
         self.build((DEVICE, eep))
         self.building.devices[DEVICE].owners.add(BASE)
-        for order, answers in pairs:
+        for order, answers in orders_and_answers:
             self.give(order)
             self.assertEqual(self.answers(), [f"D2 {answer} 01800ABC 00 FF800000" for answer in answers.split()], order)
 

@@ -3,9 +3,9 @@ import hashlib
 import io
 import unittest
 
-from building_testcase import DEVICE, SHEET, BuildingTest, Even, full_building
+from building_testcase import DEVICE, SHEET, BuildingTest, EvenRandom, full_building
 from enogate_building.building import Building, read_sheet
-from enogate_building.devices import Refused, Row
+from enogate_building.devices import RefusedCommand, Row
 from enogate_building.radio import SENSITIVITY, Place, strength
 from enogate_ctl.importing import DeviceImporter, DryRun
 from enogate_ctl.sheet import DeviceRow, Head, Sheet, decoded
@@ -29,17 +29,17 @@ class SheetTest(unittest.TestCase):
         self.assertEqual(list(read_sheet("eep,id\nD5-00-01,01800ABC\n")), [Row(DEVICE, "D5-00-01", Place(0, 0, 0))])
 
     def assert_refused(self, text, *faults):
-        with self.assertRaises(Refused) as found:
+        with self.assertRaises(RefusedCommand) as refusal:
             read_sheet(text)
-        self.assertEqual(str(found.exception).split("\n"), list(faults))
+        self.assertEqual(str(refusal.exception).split("\n"), list(faults))
 
     def test_a_sheet_of_a_planner(self):
         """As a German spreadsheet writes it, and as `enogatectl devices --export --plan` does."""
-        wanted = [Row(DEVICE, "D5-00-01", Place(1.5, 2, -1), 60), Row(0x01800ABD, "F6-02-01", Place(0, 12, 0))]
+        expected_rows = [Row(DEVICE, "D5-00-01", Place(1.5, 2, -1), 60), Row(0x01800ABD, "F6-02-01", Place(0, 12, 0))]
         for text in ("Raum;Bezeichnung;Geräte-ID;Profil;Floor;X;Y;PERIOD\n"
                      "2.14;Küche;01:80:0A:BC;D50001;-1;1,5;2,0;60\n;;0x01800abd;EEP F6-02-01;;;12;\n",
                      "id,eep,label,floor,y,x,period\n01800ABC,D5-00-01,,'-1,2.,1.50,60\n\n01800ABD,F6-02-01,,,12,\n"):
-            self.assertEqual(read_sheet(text), wanted)
+            self.assertEqual(read_sheet(text), expected_rows)
 
     def test_a_row_twice(self):
         """It is one device, as for an import."""
@@ -54,10 +54,10 @@ class SheetTest(unittest.TestCase):
                 "01800ABE;F6-02-01\n1,80E+15;D5-00-01\n")
         lines = []
         self.assertFalse(DeviceImporter({}, DryRun(()).give, lines.append).run(text))
-        wanted = [line.replace("not learned: ", "") for line in lines if not line.endswith("learned")]
-        self.assertEqual(len(wanted), 5, lines)
-        self.assert_refused(text, *wanted)
-        self.assertRegex(wanted[1], "^row 3: 01800ABC: Profil: the gateway does not support this profile: ")
+        expected_lines = [line.replace("not learned: ", "") for line in lines if not line.endswith("learned")]
+        self.assertEqual(len(expected_lines), 5, lines)
+        self.assert_refused(text, *expected_lines)
+        self.assertRegex(expected_lines[1], "^row 3: 01800ABC: Profil: the gateway does not support this profile: ")
 
     def test_a_head_that_lacks_a_column_and_no_devices(self):
         self.assert_refused("id,typ\n01800ABC,D5-00-01\n", f"row 1: {Head(['id']).missing}")
@@ -66,25 +66,27 @@ class SheetTest(unittest.TestCase):
 
     def test_numbers_out_of_range(self):
         heads, rows, faults = "ID,EEP,X,y,Floor,period", [], []
-        for place, head, kind, low, high, texts in (
+        for column_index, heading, number_kind, least, greatest, texts in (
                 (0, "X", "number", -9999, 9999, ("one", "inf", "nan", "-9999.5", "10000", "1e3", "1 m", "-", "1.2.3")),
                 (1, "y", "number", -9999, 9999, ("-10000", "9999.1", "1:2")),
                 (2, "Floor", "whole number", -99, 99, ("1.5", "-100", "100", "EG")),
                 (3, "period", "number", 0, 999999, ("-1", "1000000", "nan"))):
             for text in texts:
-                faults.append(f"row {len(rows) + 2}: {head}: {text!r} is not a {kind} from {low} to {high}")
-                rows.append(",".join([f"01800A{len(rows):02X}", "D5-00-01"] + [text if one == place else "1"
-                                                                               for one in range(4)]))
+                faults.append(f"row {len(rows) + 2}: {heading}: {text!r} is not a {number_kind} from {least} to "
+                              f"{greatest}")
+                rows.append(",".join([f"01800A{len(rows):02X}", "D5-00-01"] + [text if column == column_index else "1"
+                                                                               for column in range(4)]))
         self.assert_refused("\n".join([heads, *rows]), *faults)
-        limits = "01800ABC,D5-00-01,-9999,9999,-99,999999\n01800ABD,D5-00-01,9999,-9999,99.0,0\n"
-        self.assertEqual(read_sheet(f"{heads}\n{limits}"), [Row(DEVICE, "D5-00-01", Place(-9999, 9999, -99), 999999),
+        row_at_limits = "01800ABC,D5-00-01,-9999,9999,-99,999999\n01800ABD,D5-00-01,9999,-9999,99.0,0\n"
+        self.assertEqual(read_sheet(f"{heads}\n{row_at_limits}"),
+                         [Row(DEVICE, "D5-00-01", Place(-9999, 9999, -99), 999999),
                                               Row(0x01800ABD, "D5-00-01", Place(9999, -9999, 99), 0)])
 
     def test_encodings(self):
         """Those of spreadsheets."""
         text = "ID;Profil;Bezeichnung\n01800ABC;D5-00-01;Küche\n"
-        for data in (text.encode("utf-8-sig"), text.encode("cp1252"), text.encode("utf-16")):
-            self.assertEqual(read_sheet(decoded(data)), [Row(DEVICE, "D5-00-01", Place(0, 0, 0))])
+        for encoded_text in (text.encode("utf-8-sig"), text.encode("cp1252"), text.encode("utf-16")):
+            self.assertEqual(read_sheet(decoded(encoded_text)), [Row(DEVICE, "D5-00-01", Place(0, 0, 0))])
 
     def test_the_sheet_of_the_package(self):
         """50 devices, which enogatectl reads as they are, and kinds of all RORGs."""
@@ -101,46 +103,48 @@ class SheetTest(unittest.TestCase):
         sticks = {"ground": Place(7, 6, 0), "attic": Place(33, 6, 1), "middle": Place(20, 6, 0)}
         gateways = [line.rsplit(",", 1)[1] for line in SHEET.read_text().splitlines()[1:]]
         places = [row.place for row in read_sheet(SHEET.read_text())]
-        self.assertTrue(all((strength(place, sticks[name], Even()) or -100) > SENSITIVITY + 15
+        self.assertTrue(all((strength(place, sticks[name], EvenRandom()) or -100) > SENSITIVITY + 15
                             for place, name in zip(places, gateways)))
-        self.assertGreaterEqual(sum(strength(place, sticks["middle"], Even()) is not None for place in places), 47)
+        self.assertGreaterEqual(sum(strength(place, sticks["middle"], EvenRandom()) is not None for place in places),
+                                47)
 
     def test_each_sensor_has_its_form(self):
-        forms = [line.split()[0] for line in share.table_lines("payloads")]
-        self.assertEqual(forms, sorted(eep for eep in share.kinds_by_profile() if eep.startswith("A5")))
+        profiles_with_form = [line.split()[0] for line in share.table_lines("payloads")]
+        self.assertEqual(profiles_with_form, sorted(eep for eep in share.kinds_by_profile() if eep.startswith("A5")))
 
 
 class TimeTest(BuildingTest):
     def test_things_happen_at_their_time(self):
-        building, found = self.build(), []
+        building, calls = self.build(), []
         for seconds in (3, 1, 2, 1):
-            building.at(seconds, lambda seconds=seconds: found.append((seconds, building.now)))
-        building.at(1, lambda: building.at(0.5, lambda: found.append((1.5, building.now))))
+            building.call_after(seconds, lambda seconds=seconds: calls.append((seconds, building.now)))
+        building.call_after(1, lambda: building.call_after(0.5, lambda: calls.append((1.5, building.now))))
         building.advance(0.9)
-        self.assertEqual((found, building.now), ([], 0.9))
+        self.assertEqual((calls, building.now), ([], 0.9))
         building.advance(10)
-        self.assertEqual((found, building.now), ([(1, 1), (1, 1), (1.5, 1.5), (2, 2), (3, 3)], 10))
+        self.assertEqual((calls, building.now), ([(1, 1), (1, 1), (1.5, 1.5), (2, 2), (3, 3)], 10))
         building.advance(5)
         self.assertEqual(building.now, 10)
 
     def test_devices_send_by_themselves(self):
         """A contact once in 22.5 to 25 minutes, a sensor once in nine to ten; switches and actuators never."""
-        for eep, period, low, high in (("D5-00-01", None, 57, 64), ("A5-02-05", None, 144, 161),
-                                       ("F6-02-01", None, 0, 0), ("D2-01-12", None, 0, 0), ("D5-00-01", 0, 0, 0),
-                                       ("A5-02-05", 60, 1440, 1601)):
+        for eep, period, min_count, max_count in (("D5-00-01", None, 57, 64), ("A5-02-05", None, 144, 161),
+                                                  ("F6-02-01", None, 0, 0), ("D2-01-12", None, 0, 0),
+                                                  ("D5-00-01", 0, 0, 0),
+                                                  ("A5-02-05", 60, 1440, 1601)):
             self.build((DEVICE, eep), is_quiet=False, period=period)
             self.building.advance(DAY)
-            self.assertTrue(low <= len(self.wire.take()) <= high, (eep, period))
+            self.assertTrue(min_count <= len(self.wire.handle_bytes()) <= max_count, (eep, period))
             self.build((DEVICE, eep), period=period)
             self.building.advance(DAY)
-            self.assertEqual(self.wire.take(), [])
+            self.assertEqual(self.wire.handle_bytes(), [])
 
     def test_a_packet_by_hand(self):
         """A contact that is nearer than a metre: -31 dBm, which is 1F, from one subtelegram to all."""
         self.build((DEVICE, "D5-00-01"), is_quiet=False)
-        self.building.chance = Even()
+        self.building.rng = EvenRandom()
         self.building.advance(1500)
-        self.assertEqual(self.wire.received[:-1].hex(" ").upper(),
+        self.assertEqual(self.wire.received_bytes[:-1].hex(" ").upper(),
                          "55 00 07 07 01 7A D5 09 01 80 0A BC 00 01 FF FF FF FF 1F 00")
 
 
@@ -159,17 +163,17 @@ class RepeatTest(unittest.TestCase):
             building.devices[0x01800A03].press("BI")
             building.devices[0x01800A2D].report()
         building.advance(DAY)
-        return [wire.received for wire in wires]
+        return [wire.received_bytes for wire in wires]
 
     def test_the_same_seed_gives_the_same_bytes(self):
         self.assertEqual(self.runs[0], self.runs[1])
         self.assertNotEqual(self.runs[0], self.runs[2])
 
     def test_the_seed_is_that_of_each_device_and_of_the_radio_path(self):
-        one, other = (full_building(seed)[0] for seed in (1, 2))
-        for number, device in one.devices.items():
-            self.assertNotEqual(device.own, other.devices[number].own)
-        self.assertNotEqual(one.chance.random(), other.chance.random())
+        building, other_building = (full_building(seed)[0] for seed in (1, 2))
+        for device_id, device in building.devices.items():
+            self.assertNotEqual(device.deviation, other_building.devices[device_id].deviation)
+        self.assertNotEqual(building.rng.random(), other_building.rng.random())
 
     def test_golden(self):
         digest = hashlib.sha256(b"".join(self.runs[0])).hexdigest()
@@ -178,20 +182,20 @@ class RepeatTest(unittest.TestCase):
     def test_all_that_is_heard_is_read(self):
         """Every telegram of the day: its values are those of a building in which people live."""
         profiles = {row.device: row.eep for row in read_sheet(SHEET.read_text())}
-        limits = {"TMP": (17, 25), "HUM": (30, 60), "CONC": (300, 1300), "SVC": (2.7, 3.3), "MR": (100, 911)}
+        range_by_reading = {"TMP": (17, 25), "HUM": (30, 60), "CONC": (300, 1300), "SVC": (2.7, 3.3), "MR": (100, 911)}
         for received in self.runs[0]:
-            heard = set()
-            for kind, data, optional in packets_in_stream(received):
-                sender = int.from_bytes(data[-5:-1], "big")
-                heard.add(sender)
+            heard_profiles = set()
+            for kind, packet_data, optional in packets_in_stream(received):
+                sender = int.from_bytes(packet_data[-5:-1], "big")
+                heard_profiles.add(sender)
                 self.assertTrue(kind == 1 and -92 <= -optional[5] <= -25)
-                for reading in telegram_readings(profiles[sender], data[0], data[1:-5], data[-1]):
+                for reading in telegram_readings(profiles[sender], packet_data[0], packet_data[1:-5], packet_data[-1]):
                     self.assertNotIn("out_of_range", reading)
-                    low, high = limits.get(reading["name"], (0, 1e9))
+                    least, greatest = range_by_reading.get(reading["name"], (0, 1e9))
                     if "num" in reading:
-                        self.assertTrue(low <= reading["num"] / reading["den"] <= high, reading)
+                        self.assertTrue(least <= reading["num"] / reading["den"] <= greatest, reading)
             # Each stick hears most devices; ten switches and actuators did not send.
-            self.assertTrue(30 <= len(heard) <= 45, len(heard))
+            self.assertTrue(30 <= len(heard_profiles) <= 45, len(heard_profiles))
 
     def test_devices_do_not_depend_on_others(self):
         """A device sends at the same times whether others are there or not."""
@@ -201,13 +205,13 @@ class RepeatTest(unittest.TestCase):
     @staticmethod
     def times(lines):
         """When a sensor of these rows sends, and what; the others are dead."""
-        building, found = Building(read_sheet("".join(lines))), []
-        building.send = lambda telegram, _: found.append((building.now, telegram.payload))
+        building, times = Building(read_sheet("".join(lines))), []
+        building.send = lambda telegram, _: times.append((building.now, telegram.payload))
         for device in building.devices.values():
             if device.row.device != 0x01800A02:
                 device.is_dead = True
         building.advance(7200)
-        return found
+        return times
 
 
 if __name__ == "__main__":

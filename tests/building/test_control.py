@@ -5,7 +5,7 @@ import unittest
 
 from building_testcase import DEVICE, BuildingTest
 from enogate_building import control
-from enogate_building.control import FORMS
+from enogate_building.control import COMMAND_FORMS
 
 SWITCH, CONTACT, ACTUATOR = DEVICE, 0x01800ABD, 0x01800ABE
 
@@ -16,9 +16,9 @@ class ControlTest(BuildingTest):
 
     def answer(self, line):
         """The answer to a line."""
-        found = control.answer(self.building, line if isinstance(line, bytes) else line.encode())
-        self.assertTrue(found.endswith(b"\n") and found.count(b"\n") == 1, found)
-        return found.decode()[:-1]
+        answer_bytes = control.answer(self.building, line if isinstance(line, bytes) else line.encode())
+        self.assertTrue(answer_bytes.endswith(b"\n") and answer_bytes.count(b"\n") == 1, answer_bytes)
+        return answer_bytes.decode()[:-1]
 
     def assert_sent(self, line, *telegrams):
         self.assertEqual(self.answer(line), "ok", line)
@@ -50,8 +50,8 @@ class ControlTest(BuildingTest):
 
     def test_noise(self):
         self.assertEqual(self.answer("noise"), "ok")
-        self.assertEqual([len(wire.received) for wire in self.wires], [100, 100])
-        self.assertNotEqual(self.wires[0].received, self.wires[1].received)
+        self.assertEqual([len(wire.received_bytes) for wire in self.wires], [100, 100])
+        self.assertNotEqual(self.wires[0].received_bytes, self.wires[1].received_bytes)
 
     def test_sticks(self):
         self.assertEqual(self.answer("unplug stick0"), "ok")
@@ -66,12 +66,12 @@ class ControlTest(BuildingTest):
         """Everything that a command could change."""
         devices = [(device.is_dead, device.is_closed, getattr(device, "owners", None), getattr(device, "values", None),
                     getattr(device, "learns_until", None)) for device in self.building.devices.values()]
-        sticks = [(stick.is_plugged_in, stick.rest) for stick in self.building.sticks.values()]
-        return repr((devices, sticks, self.building.due, self.building.chance.getstate(), self.building.now,
-                     [wire.received for wire in self.wires]))
+        sticks = [(stick.is_plugged_in, stick.unparsed_bytes) for stick in self.building.sticks.values()]
+        return repr((devices, sticks, self.building.due_calls, self.building.rng.getstate(), self.building.now,
+                     [wire.received_bytes for wire in self.wires]))
 
     def test_what_is_no_command_changes_nothing(self):
-        before = self.state()
+        state_before = self.state()
         lines = ["", " ", "press", "press 01800ABC XX", "press 01800ABC CI", "press 01800ABC A0 A0", "press  01800ABC",
                  "press 01800ABC ", " noise", "noise ", "noise stick0", "NOISE", "open", "open 01800ABC",
                  "open 01800ABD now", "close 01800ABE", "press 01800ABD", "press 01800ABE AI", "send", "send 01800ABF",
@@ -82,25 +82,26 @@ class ControlTest(BuildingTest):
                  b"\xff\xfe", b"noise\xff", "x" * 5000]
         for line in lines:
             self.assertTrue(self.answer(line).startswith("error: "), line)
-            self.assertEqual(self.state(), before, line)
+            self.assertEqual(self.state(), state_before, line)
 
     def test_random_lines(self):
-        chance, before = random.Random(7), self.state()
-        words = re.findall("[a-zA-Z]+", " ".join(FORMS)) + ["01800ABC", "01800ABD", "AI", "stick0", "", "\t", "0", "-"]
+        rng, state_before = random.Random(7), self.state()
+        words = re.findall("[a-zA-Z]+", " ".join(COMMAND_FORMS)) + ["01800ABC", "01800ABD", "AI", "stick0", "", "\t",
+                                                                    "0", "-"]
         for _ in range(3000):
-            line = " ".join(chance.choices(words, k=chance.randrange(1, 5)))
+            line = " ".join(rng.choices(words, k=rng.randrange(1, 5)))
             if self.answer(line) == "ok":
                 self.setUp()
-                before = self.state()
-            self.assertEqual(self.state(), before, line)
+                state_before = self.state()
+            self.assertEqual(self.state(), state_before, line)
 
     def test_each_form_is_a_command(self):
-        for form in FORMS:
+        for form in COMMAND_FORMS:
             line = form.replace("[BUTTON]", "AI").replace("STICK", "stick0")
             device = {"open": "01800ABD", "close": "01800ABD"}.get(form.split()[0], "01800ABC")
             self.assertEqual(self.answer(line.replace("ID", device)), "ok", form)
-        self.assertIn("; ".join(FORMS), self.answer("help"))
-        self.assertEqual(control.OK, "ok")
+        self.assertIn("; ".join(COMMAND_FORMS), self.answer("help"))
+        self.assertEqual(control.OK_ANSWER, "ok")
 
 
 if __name__ == "__main__":

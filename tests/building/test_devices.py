@@ -3,8 +3,8 @@ import random
 import unittest
 from fractions import Fraction
 
-from building_testcase import DEVICE, BuildingTest, Even
-from enogate_building.devices import Refused
+from building_testcase import DEVICE, BuildingTest, EvenRandom
+from enogate_building.devices import RefusedCommand
 from enogate_tools import share
 from oracle.profiles import telegram_readings
 
@@ -30,7 +30,8 @@ PAYLOADS = (
 
 
 SWEEPS = {"TMP": range(-70, 141), "HUM": range(-5, 106), "CONC": range(-50, 2700, 15),
-          "ILL": [*range(-100, 1600, 20), *range(1600, 31000, 300)], "SVC": [value / 50 for value in range(-3, 260)],
+          "ILL": [*range(-100, 1600, 20), *range(1600, 31000, 300)],
+          "SVC": [fraction / 50 for fraction in range(-3, 260)],
           "SP": range(-2, 260), "MR": [0, *range(1, 99), 1e9]}
 
 
@@ -38,7 +39,7 @@ class DevicesTest(BuildingTest):
     def device(self, eep):
         """The only device of a building, in which nothing varies."""
         device = self.build((DEVICE, eep)).devices[DEVICE]
-        device.chance = self.building.chance = Even()
+        device.rng = self.building.rng = EvenRandom()
         return device
 
     def test_payloads(self):
@@ -51,31 +52,32 @@ class DevicesTest(BuildingTest):
     def test_each_profile_is_read_by_the_oracle(self):
         for eep in share.kinds_by_profile():
             self.device(eep).report()
-            for _, data, _ in self.wire.take():
-                readings = telegram_readings(eep, data[0], data[1:-5], data[-1])
+            for _, packet_data, _ in self.wire.handle_bytes():
+                readings = telegram_readings(eep, packet_data[0], packet_data[1:-5], packet_data[-1])
                 self.assertTrue(readings, eep)
                 self.assertFalse([reading for reading in readings if "out_of_range" in reading], eep)
 
     def test_each_value_is_read_as_it_was_measured(self):
         """The values of a sweep come back, to within half of a raw number. Beyond its ends a scale stays at its end."""
-        steps = {"TMP": 0.4, "HUM": 0.5, "CONC": 10, "ILL": 234, "SVC": 0.02, "SP": 1, "MR": 0.01}
+        step_by_reading = {"TMP": 0.4, "HUM": 0.5, "CONC": 10, "ILL": 234, "SVC": 0.02, "SP": 1, "MR": 0.01}
         for eep in (eep for eep in share.kinds_by_profile() if eep.startswith("A5")):
             device = self.device(eep)
             for name, sweep in SWEEPS.items():
-                found = [self.reading(device, name, value) for value in sweep]
-                if None not in found:
-                    self.assertEqual(found, sorted(found), (eep, name))
-                    for value, read in zip(sweep, found):
-                        if found[0] < read < found[-1]:
-                            self.assertLessEqual(abs(read - value), steps[name] / 2 + 1e-6, (eep, name, value))
-                    self.assertGreater(len(set(found)), 9, (eep, name))
+                readings = [self.reading(device, name, measured) for measured in sweep]
+                if None not in readings:
+                    self.assertEqual(readings, sorted(readings), (eep, name))
+                    for measured, read in zip(sweep, readings):
+                        if readings[0] < read < readings[-1]:
+                            self.assertLessEqual(abs(read - measured), step_by_reading[name] / 2 + 1e-6,
+                                                 (eep, name, measured))
+                    self.assertGreater(len(set(readings)), 9, (eep, name))
 
-    def reading(self, device, name, value):
+    def reading(self, device, name, measured):
         """What a sensor that measures this value reports under this name; None if it does not report it."""
-        device.measure = lambda one: value if one == name else 0
+        device.measure = lambda measured_name: measured if measured_name == name else 0
         device.report()
-        [(_, data, _)] = self.wire.take()
-        for reading in telegram_readings(device.row.eep, data[0], data[1:-5], data[-1]):
+        [(_, packet_data, _)] = self.wire.handle_bytes()
+        for reading in telegram_readings(device.row.eep, packet_data[0], packet_data[1:-5], packet_data[-1]):
             if reading["name"].rstrip("12") == name:
                 return float(Fraction(reading["num"], reading["den"])) if "num" in reading else reading["raw"]
         return None
@@ -83,12 +85,13 @@ class DevicesTest(BuildingTest):
     def test_days_and_nights(self):
         """At a quarter of the day it is warmest, after a day as at first; meters count on."""
         device = self.device("A5-12-01")
-        device.own = 0.0
-        for now, name, value in ((0, "TMP", 21), (21600, "TMP", 22.5), (64800, "TMP", 19.5), (86400, "TMP", 21),
-                                 (86400, "MR", 510), (43200, "CONC", 800), (21600, "HUM", 40)):
+        device.deviation = 0.0
+        for now, name, expected_value in ((0, "TMP", 21), (21600, "TMP", 22.5), (64800, "TMP", 19.5),
+                                          (86400, "TMP", 21),
+                                          (86400, "MR", 510), (43200, "CONC", 800), (21600, "HUM", 40)):
             self.building.now = now
-            self.assertAlmostEqual(device.measure(name), value, places=6)
-        device.own = 1.0
+            self.assertAlmostEqual(device.measure(name), expected_value, places=6)
+        device.deviation = 1.0
         self.assertAlmostEqual(device.measure("SP"), 168)
 
     def test_contacts(self):
@@ -112,14 +115,15 @@ class DevicesTest(BuildingTest):
         for eep, buttons in (("F6-02-01", "AI A0 BI B0"), ("F6-03-01", "AI A0 BI B0 CI C0 DI D0")):
             for button in buttons.split():
                 self.device(eep).press(button)
-                [(_, data, _)] = self.wire.take()
-                self.assertEqual(telegram_readings(eep, 0xF6, data[1:-5], data[-1])[0], {"name": "R1", "word": button})
+                [(_, packet_data, _)] = self.wire.handle_bytes()
+                self.assertEqual(telegram_readings(eep, 0xF6, packet_data[1:-5], packet_data[-1])[0],
+                                 {"name": "R1", "word": button})
 
     def test_buttons_that_a_switch_does_not_have(self):
         for eep, button in (("F6-01-01", "AI"), ("F6-02-01", "CI"), ("F6-03-01", "E0")):
             device = self.device(eep)
-            self.assertRaises(Refused, device.press, button)
-            self.assertEqual((self.wire.telegrams(), self.building.due), ([], []))
+            self.assertRaises(RefusedCommand, device.press, button)
+            self.assertEqual((self.wire.telegrams(), self.building.due_calls), ([], []))
 
     def test_learn_buttons(self):
         """The profile and the manufacturer ID 7FF are in a query of four bytes."""
@@ -138,13 +142,13 @@ class DevicesTest(BuildingTest):
             device.report()
             device.teach_in()
             self.building.advance(10)
-            self.assertEqual(self.wire.take(), [], eep)
+            self.assertEqual(self.wire.handle_bytes(), [], eep)
 
     def test_noise_of_measurements(self):
         device = self.device("A5-02-05")
-        device.chance = random.Random(2)
-        found = [device.measure("TMP") - 2 * device.own for _ in range(300)]
-        self.assertTrue(20.9 <= min(found) < 20.92 and 21.08 < max(found) <= 21.1)
+        device.rng = random.Random(2)
+        measurements = [device.measure("TMP") - 2 * device.deviation for _ in range(300)]
+        self.assertTrue(20.9 <= min(measurements) < 20.92 and 21.08 < max(measurements) <= 21.1)
 
 
 if __name__ == "__main__":

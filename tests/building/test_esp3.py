@@ -19,19 +19,20 @@ class PacketsTest(unittest.TestCase):
         self.assertEqual(list(esp3.packets_in(stream)), [(22, 1, data, optional), (32, 5, b"\x08", b"")])
 
     def test_a_wrong_byte_is_no_packet(self):
-        whole = bytes.fromhex(CONTACT)
-        for place in range(len(whole)):
-            wrong = bytearray(whole)
-            wrong[place] ^= 0x10
-            self.assertEqual(list(esp3.packets_in(bytes(wrong))), [], place)
+        contact_packet = bytes.fromhex(CONTACT)
+        for index in range(len(contact_packet)):
+            damaged = bytearray(contact_packet)
+            damaged[index] ^= 0x10
+            self.assertEqual(list(esp3.packets_in(bytes(damaged))), [], index)
 
     def test_the_oracle_finds_the_same_packets(self):
-        chance = random.Random(5)
+        rng = random.Random(5)
         for _ in range(300):
-            stream = b"".join(packet(chance.choice((1, 2, 5)), chance.randbytes(chance.randrange(1, 20)),
-                                     chance.randbytes(chance.randrange(9))) + chance.randbytes(chance.randrange(4))
+            stream = b"".join(packet(rng.choice((1, 2, 5)), rng.randbytes(rng.randrange(1, 20)),
+                                     rng.randbytes(rng.randrange(9))) + rng.randbytes(rng.randrange(4))
                               for _ in range(3)) + b"\0" * 300
-            self.assertEqual([found[1:] for found in esp3.packets_in(stream)], list(packets_in_stream(stream)))
+            self.assertEqual([end_and_packet[1:] for end_and_packet in esp3.packets_in(stream)],
+                             list(packets_in_stream(stream)))
 
 
 if __name__ == "__main__":

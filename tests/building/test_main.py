@@ -11,11 +11,11 @@ from enogate_building.main import parse_arguments, stick_at
 from enogate_building.radio import Place
 
 
-def printed(call, *arguments):
+def printed(function, *arguments):
     """What is printed on both outputs, and the exit status."""
     with contextlib.redirect_stderr(io.StringIO()) as text, contextlib.redirect_stdout(text):
         try:
-            status = call(*arguments)
+            status = function(*arguments)
         except SystemExit as end:
             status = end.code
     return text.getvalue(), status
@@ -31,10 +31,10 @@ class CommandLineTest(unittest.TestCase):
     def test_what_is_no_stick(self):
         for text in ("hall", "hall:", "hall:2,3", "hall:2,3,0,1", "hall:2,3,EG", ":2,3,0", "../a:1,1,1", "mqtt:1,1,1",
                      "", "hall:2.5,3,0", "hall:\u0662,3,0", "hall:1,1,100", "a:b:1,1,1"):
-            found, status = printed(parse_arguments, ["--stick", text, "house"])
+            output, status = printed(parse_arguments, ["--stick", text, "house"])
             self.assertEqual(status, 2)
-            self.assertTrue(found.endswith(
-                f"argument --stick: {text!r} is not NAME:X,Y,FLOOR, such as ground:7,6,0\n"), found)
+            self.assertTrue(output.endswith(
+                f"argument --stick: {text!r} is not NAME:X,Y,FLOOR, such as ground:7,6,0\n"), output)
 
 
 class FaultsTest(unittest.TestCase):
@@ -46,8 +46,8 @@ class FaultsTest(unittest.TestCase):
 
     def test_a_command_without_a_building(self):
         for fault in (errno.ENOENT, errno.EACCES, errno.ECONNREFUSED):
-            with mock.patch("socket.socket") as made:
-                made.return_value.__enter__.return_value.connect_ex.return_value = fault
+            with mock.patch("socket.socket") as socket_class:
+                socket_class.return_value.__enter__.return_value.connect_ex.return_value = fault
                 text = f"/run/house/control: {os.strerror(fault)}: no building of this user runs there"
                 self.assertEqual(self.run_main("/run/house", "noise"), (f"virtual-building: {text}\n", 1))
 

@@ -19,8 +19,8 @@ def word(name: str, text: str) -> Reading:
     return Reading(name, "", text, None)
 
 
-def raw(name: str, number: int) -> Reading:
-    return Reading(name, "", str(number), number)
+def raw(name: str, raw_number: int) -> Reading:
+    return Reading(name, "", str(raw_number), raw_number)
 
 
 def telegram(eep: str, *readings: Reading, dbm: int | None = None) -> Telegram:
@@ -47,20 +47,21 @@ class TableLines(unittest.TestCase):
     """The lines of the table."""
 
     def test_a_line(self):
-        found = entity_row_of('D2-01-1? MV kWh MV_kWh IO?2 sensor "All energy" class=energy unit=kWh diagnostic')
-        self.assertEqual((found.profiles, found.reading, found.unit, found.topic), ("D2-01-1?", "MV", "kWh", "MV_kWh"))
-        self.assertEqual((found.by, found.count, found.from_the_start), ("IO", 2, False))
-        self.assertEqual((found.entity, found.name), ("sensor", "All energy"))
-        self.assertEqual(found.more, {"class": "energy", "unit": "kWh", "diagnostic": ""})
+        entity_row = entity_row_of('D2-01-1? MV kWh MV_kWh IO?2 sensor "All energy" class=energy unit=kWh diagnostic')
+        self.assertEqual((entity_row.profiles, entity_row.reading, entity_row.unit, entity_row.topic),
+                         ("D2-01-1?", "MV", "kWh", "MV_kWh"))
+        self.assertEqual((entity_row.by, entity_row.count, entity_row.from_the_start), ("IO", 2, False))
+        self.assertEqual((entity_row.entity, entity_row.name), ("sensor", "All energy"))
+        self.assertEqual(entity_row.more, {"class": "energy", "unit": "kWh", "diagnostic": ""})
 
     def test_a_line_with_nothing_but_its_reading(self):
-        found = entity_row_of("D2-01-?? UN - - - - -")
-        self.assertEqual((found.unit, found.topic, found.by, found.count), ("", "", "", 0))
-        self.assertEqual((found.entity, found.name, found.more), ("", "", {}))
+        entity_row = entity_row_of("D2-01-?? UN - - - - -")
+        self.assertEqual((entity_row.unit, entity_row.topic, entity_row.by, entity_row.count), ("", "", "", 0))
+        self.assertEqual((entity_row.entity, entity_row.name, entity_row.more), ("", "", {}))
 
     def test_channels_from_the_start(self):
-        found = entity_row_of("D2-01-0? OV % OV IO:1 switch -")
-        self.assertEqual((found.by, found.count, found.from_the_start), ("IO", 1, True))
+        entity_row = entity_row_of("D2-01-0? OV % OV IO:1 switch -")
+        self.assertEqual((entity_row.by, entity_row.count, entity_row.from_the_start), ("IO", 1, True))
 
     def test_a_wrong_line(self):
         for line in ["A5-02-?? TMP C TMP - sensor", 'A5-02-?? TMP C TMP - sensor "Temperature',
@@ -74,13 +75,15 @@ class TableLines(unittest.TestCase):
 
     def test_comments_and_blank_lines(self):
         table = table_of("# a comment\n\n  \nD5-00-01 CO - CO - binary_sensor Contact on=open off=closed\n# another\n")
-        self.assertEqual([found.reading for found in table.rows], ["CO"])
+        self.assertEqual([entity_row.reading for entity_row in table.rows], ["CO"])
 
     def test_the_first_line_that_matches_applies(self):
         table = table_of("A5-02-05 TMP C TMP - sensor First\nA5-02-?? TMP C TMP - sensor Second\n"
                          "A5-02-?? TMP K TMP_K - sensor Third\n")
-        self.assertEqual([found.name for found in table.rows_of_profile("A5-02-05").values()], ["First", "Third"])
-        self.assertEqual([found.name for found in table.rows_of_profile("A5-02-06").values()], ["Second", "Third"])
+        self.assertEqual([entity_row.name for entity_row in table.rows_of_profile("A5-02-05").values()],
+                         ["First", "Third"])
+        self.assertEqual([entity_row.name for entity_row in table.rows_of_profile("A5-02-06").values()],
+                         ["Second", "Third"])
         self.assertEqual(table.rows_of_profile("a5-02-05"), {})
         self.assertEqual(table.rows_of_profile("A5-02-050"), {})
 
@@ -88,18 +91,20 @@ class TableLines(unittest.TestCase):
         self.assertIs(TABLE.rows_of_profile("D2-01-12"), TABLE.rows_of_profile("D2-01-12"))
 
     def test_rows_of_one_and_of_two_channels_are_alike(self):
-        one, two = TABLE.rows_of_profile("D2-01-00"), TABLE.rows_of_profile("D2-01-12")
-        self.assertEqual(list(one), list(two))
-        for key, found in one.items():
-            other = two[key]
-            self.assertEqual((found.topic, found.by, found.from_the_start, found.entity, found.more),
-                             (other.topic, other.by, other.from_the_start, other.entity, other.more), key)
-            self.assertEqual((found.count, other.count), (1, 2) if found.by else (0, 0), key)
-            self.assertEqual(other.name, "Channel" if key == ("OV", "%") else found.name)
+        rows_of_one_channel, rows_of_two_channels = TABLE.rows_of_profile("D2-01-00"), TABLE.rows_of_profile("D2-01-12")
+        self.assertEqual(list(rows_of_one_channel), list(rows_of_two_channels))
+        for key, entity_row in rows_of_one_channel.items():
+            other_row = rows_of_two_channels[key]
+            self.assertEqual((entity_row.topic, entity_row.by, entity_row.from_the_start, entity_row.entity,
+                              entity_row.more),
+                             (other_row.topic, other_row.by, other_row.from_the_start, other_row.entity,
+                              other_row.more), key)
+            self.assertEqual((entity_row.count, other_row.count), (1, 2) if entity_row.by else (0, 0), key)
+            self.assertEqual(other_row.name, "Channel" if key == ("OV", "%") else entity_row.name)
 
     def test_names_differ_within_a_profile(self):
         for eep in ["A5-08-01", "A5-10-05", "A5-12-01", "D2-01-00", "D2-01-02", "D2-01-12", "D2-05-00"]:
-            names = [found.name for found in TABLE.rows_of_profile(eep).values() if found.entity]
+            names = [entity_row.name for entity_row in TABLE.rows_of_profile(eep).values() if entity_row.entity]
             self.assertEqual(len(names), len(set(names)), eep)
 
     def test_how_entities_are_shown(self):
@@ -108,19 +113,21 @@ class TableLines(unittest.TestCase):
             ("A5-06-01", set(), {"SVC"}), ("A5-07-01", set(), {"SVC"}), ("A5-08-01", set(), {"SVC"}),
         ]:
             rows = TABLE.rows_of_profile(eep).values()
-            self.assertEqual({found.reading for found in rows if "hidden" in found.more}, hidden, eep)
-            self.assertEqual({found.reading for found in rows if "diagnostic" in found.more}, diagnostic, eep)
+            self.assertEqual({entity_row.reading for entity_row in rows if "hidden" in entity_row.more}, hidden, eep)
+            self.assertEqual({entity_row.reading for entity_row in rows if "diagnostic" in entity_row.more}, diagnostic,
+                             eep)
 
     def test_states(self):
-        for eep, reading, device_class, on, off in [
+        for eep, reading, device_class, on_word, off_word in [
             ("D5-00-01", "CO", "opening", "open", "closed"), ("A5-07-01", "PIRS", "motion", "on", "off"),
             ("A5-08-01", "PIRS", "motion", "on", "off"), ("A5-08-01", "OCC", None, "pressed", "released"),
             ("A5-10-05", "OCC", None, "pressed", "released"), ("D2-01-12", "PF", None, "1", "0"),
             ("D2-01-12", "PFD", "problem", "1", "0"), ("D2-01-12", "OC", "problem", "1", "0"),
             ("D2-01-12", "LC", None, "1", "0"),
         ]:
-            more = row(eep, reading).more
-            self.assertEqual((more.get("class"), more["on"], more["off"]), (device_class, on, off), (eep, reading))
+            config = row(eep, reading).more
+            self.assertEqual((config.get("class"), config["on"], config["off"]), (device_class, on_word, off_word),
+                             (eep, reading))
 
     def test_meters(self):
         for eep, unit, device_class, name in [
@@ -128,8 +135,8 @@ class TableLines(unittest.TestCase):
             ("A5-12-02", "m3", "gas", "Gas"), ("A5-12-02", "l/s", None, "Gas flow"),
             ("A5-12-03", "m3", "water", "Water"), ("A5-12-03", "l/s", None, "Water flow"),
         ]:
-            found = row(eep, "MR", unit)
-            self.assertEqual((found.more.get("class"), found.name), (device_class, name), (eep, unit))
+            entity_row = row(eep, "MR", unit)
+            self.assertEqual((entity_row.more.get("class"), entity_row.name), (device_class, name), (eep, unit))
 
     def test_digits(self):
         """What a dashboard shows of a value. tests/around/entities.py compares them with the profiles."""
@@ -145,26 +152,26 @@ class TableLines(unittest.TestCase):
 
     def test_which_rows_have_digits(self):
         """Each sensor with a unit or a state class is a number for Home Assistant."""
-        for found in TABLE.rows:
-            is_number = found.entity == "sensor" and ("unit" in found.more or "state" in found.more)
-            self.assertEqual(found.digits is not None, is_number, found)
+        for entity_row in TABLE.rows:
+            is_number = entity_row.entity == "sensor" and ("unit" in entity_row.more or "state" in entity_row.more)
+            self.assertEqual(entity_row.digits is not None, is_number, entity_row)
 
     def test_cyclic_readings(self):
         """When they expire: by the setting, or after three times 20 or 30 minutes."""
-        for eep, reading, unit, own in [
+        for eep, reading, unit, config_text in [
             ("A5-02-05", "TMP", "C", 3600), ("A5-02-20", "TMP", "C", 3600), ("A5-04-01", "HUM", "%", 3600),
             ("A5-06-01", "ILL2", "lx", 3600), ("A5-07-01", "PIRS", "", 5400), ("A5-08-03", "OCC", "", 5400),
             ("A5-09-04", "CONC", "ppm", 3600), ("A5-10-05", "SP", "", 3600), ("D5-00-01", "CO", "", 5400),
         ]:
-            found = row(eep, reading, unit)
-            self.assertEqual([found.expires_after(setting) for setting in (AUTO, 1, 7200, None)],
-                             [own, 1, 7200, None], (eep, reading))
+            entity_row = row(eep, reading, unit)
+            self.assertEqual([entity_row.expires_after(setting) for setting in (AUTO, 1, 7200, None)],
+                             [config_text, 1, 7200, None], (eep, reading))
 
     def test_readings_that_are_not_cyclic(self):
         for eep, reading, unit in [("A5-12-01", "MR", "kWh"), ("F6-02-01", "R1", ""), ("D2-01-12", "OV", "%"),
                                    ("D2-05-00", "POS", "%")]:
-            found = row(eep, reading, unit)
-            self.assertEqual([found.expires_after(setting) for setting in (AUTO, 7200, None)], [None] * 3, eep)
+            entity_row = row(eep, reading, unit)
+            self.assertEqual([entity_row.expires_after(setting) for setting in (AUTO, 7200, None)], [None] * 3, eep)
 
 
 class RowEntities(unittest.TestCase):
@@ -176,7 +183,7 @@ class RowEntities(unittest.TestCase):
         self.assertEqual(row("A5-12-01", "MR", "kWh").subtopic(15), "MR_kWh/15")
 
     def test_titles(self):
-        for eep, reading, unit, number, title in [
+        for eep, reading, unit, channel, title in [
             ("D5-00-01", "CO", "", None, "Contact"),
             ("D2-01-0F", "OV", "%", 0, None), ("D2-01-0F", "OV", "%", 1, "1"),
             ("D2-01-12", "OV", "%", 0, "Channel 0"), ("D2-01-12", "OV", "%", 1, "Channel 1"),
@@ -184,7 +191,7 @@ class RowEntities(unittest.TestCase):
             ("D2-01-12", "MV", "W", 0, "Power 0"), ("D2-05-00", "POS", "%", 0, None),
             ("A5-08-01", "OCC", "", None, "Occupancy button"),
         ]:
-            self.assertEqual(row(eep, reading, unit).title(number), title, (eep, reading, number))
+            self.assertEqual(row(eep, reading, unit).title(channel), title, (eep, reading, channel))
 
     def test_words(self):
         self.assertEqual(row("F6-02-01", "R1").words("types"), ["AI", "A0", "BI", "B0"])
@@ -198,25 +205,26 @@ class RowEntities(unittest.TestCase):
         self.assertEqual(row("A5-12-01", "MR", "kWh").entity_numbers([]), [0])
 
     def test_numbers_of_measurements_when_they_are_reported(self):
-        found = row("D2-01-12", "MV", "W")
-        self.assertEqual(found.entity_numbers([]), [])
-        self.assertEqual(found.entity_numbers(["MV_W/1", "MV_kWh/0", "MV"]), [1])
+        entity_row = row("D2-01-12", "MV", "W")
+        self.assertEqual(entity_row.entity_numbers([]), [])
+        self.assertEqual(entity_row.entity_numbers(["MV_W/1", "MV_kWh/0", "MV"]), [1])
 
     def test_numbers_that_are_reported_later(self):
-        found = row("A5-12-01", "MR", "kWh")
-        self.assertEqual(found.entity_numbers(["MR_kWh/9", "MR_kWh/10", "MR_kWh/2", "MR_W/5", "MR_kWh"]), [0, 2, 9, 10])
+        entity_row = row("A5-12-01", "MR", "kWh")
+        self.assertEqual(entity_row.entity_numbers(["MR_kWh/9", "MR_kWh/10", "MR_kWh/2", "MR_W/5", "MR_kWh"]),
+                         [0, 2, 9, 10])
 
     def test_a_subtopic_that_is_no_number(self):
-        found = row("A5-12-01", "MR", "kWh")
-        for end in ["", "x", "-1", "01", "100", "1/2", "1 ", "\u0661"]:
-            self.assertEqual(found.entity_numbers([f"MR_kWh/{end}", "5"]), [0], end)
+        entity_row = row("A5-12-01", "MR", "kWh")
+        for subtopic_end in ["", "x", "-1", "01", "100", "1/2", "1 ", "\u0661"]:
+            self.assertEqual(entity_row.entity_numbers([f"MR_kWh/{subtopic_end}", "5"]), [0], subtopic_end)
 
     def test_channels_that_take_no_commands(self):
         self.assertEqual(GREATEST_CHANNEL, {"switch": 29, "light": 29, "cover": 0})
-        reported = ["OV/29", "OV/30", "PF/30"]
-        self.assertEqual(row("D2-01-12", "OV", "%").entity_numbers(reported), [0, 1, 29])
-        self.assertEqual(row("D2-01-02", "OV", "%").entity_numbers(reported), [0, 29])
-        self.assertEqual(row("D2-01-12", "PF").entity_numbers(reported), [0, 1, 30])
+        subtopics = ["OV/29", "OV/30", "PF/30"]
+        self.assertEqual(row("D2-01-12", "OV", "%").entity_numbers(subtopics), [0, 1, 29])
+        self.assertEqual(row("D2-01-02", "OV", "%").entity_numbers(subtopics), [0, 29])
+        self.assertEqual(row("D2-01-12", "PF").entity_numbers(subtopics), [0, 1, 30])
         self.assertEqual(row("D2-05-00", "POS", "%").entity_numbers(["POS/0", "POS/1", "ANG/1"]), [0])
         self.assertEqual(row("D2-05-00", "ANG", "%").entity_numbers(["POS/0", "POS/1", "ANG/1"]), [0, 1])
 
@@ -240,7 +248,7 @@ class TelegramReadings(unittest.TestCase):
             self.assertIsNone(TABLE.row_of_reading(eep, reading), reading)
 
     def test_subtopics_of_readings(self):
-        for eep, readings, reported in [
+        for eep, readings, texts_by_subtopic in [
             ("D5-00-01", [word("CO", "closed")], {"CO": "closed"}),
             ("A5-06-01", [value("SVC", "5.1", "V"), value("ILL2", "300", "lx")],
              {"SVC": "5.1", "ILL2": "300", "ILL": "300"}),
@@ -251,17 +259,17 @@ class TelegramReadings(unittest.TestCase):
             ("D2-01-12", [raw("IO", 0), raw("UN", 3), value("MV", "1234", "W")],
              {"IO": "0", "UN": "3", "MV": "1234", "MV_W/0": "1234"}),
         ]:
-            self.assertEqual(TABLE.readings_by_subtopic(telegram(eep, *readings)), reported, eep)
+            self.assertEqual(TABLE.readings_by_subtopic(telegram(eep, *readings)), texts_by_subtopic, eep)
 
     def test_channels_of_readings(self):
-        reported = {"PF": "0", "PF/1": "0", "EL": "ok", "EL/1": "ok", "IO": "1", "OV": "100", "OV/1": "100"}
-        self.assertEqual(TABLE.readings_by_subtopic(telegram("D2-01-12", *state(1))), reported)
-        self.assertEqual(TABLE.readings_by_subtopic(telegram("D2-01-12", *reversed(state(1)))), reported)
+        texts_by_subtopic = {"PF": "0", "PF/1": "0", "EL": "ok", "EL/1": "ok", "IO": "1", "OV": "100", "OV/1": "100"}
+        self.assertEqual(TABLE.readings_by_subtopic(telegram("D2-01-12", *state(1))), texts_by_subtopic)
+        self.assertEqual(TABLE.readings_by_subtopic(telegram("D2-01-12", *reversed(state(1)))), texts_by_subtopic)
 
     def test_a_reading_without_its_channel(self):
         self.assertEqual(TABLE.readings_by_subtopic(telegram("D2-01-12", value("OV", "0", "%"))), {"OV": "0"})
-        found = telegram("D2-01-12", value("OV", "0", "%"), word("IO", "out_of_range"))
-        self.assertEqual(TABLE.readings_by_subtopic(found),
+        channelless_telegram = telegram("D2-01-12", value("OV", "0", "%"), word("IO", "out_of_range"))
+        self.assertEqual(TABLE.readings_by_subtopic(channelless_telegram),
                          {"OV": "0", "IO": "out_of_range"})
 
     def test_the_signal_strength(self):
@@ -270,13 +278,14 @@ class TelegramReadings(unittest.TestCase):
         self.assertEqual(TABLE.readings_by_subtopic(telegram("D5-00-01")), {})
 
     def test_reports_each_subtopic_that_is_reported(self):
-        for one in [telegram("D2-01-12", *state(1), dbm=-45), telegram("D5-00-01", word("CO", "open"), dbm=-45),
-                    telegram("D2-01-12", raw("IO", 31), value("MV", "1", "kWh")),
-                    telegram("A5-12-01", value("MR", "7", "W"), raw("TI", 15)),
-                    telegram("A5-06-01", value("ILL1", "1", "lx")),
-                    telegram("F6-02-01", word("R1", "AI"), word("EB", "pressed"))]:
-            for subtopic in TABLE.readings_by_subtopic(one):
-                self.assertTrue(TABLE.may_report(one.eep, subtopic), (one.eep, subtopic))
+        for reporting_telegram in [telegram("D2-01-12", *state(1), dbm=-45),
+                                   telegram("D5-00-01", word("CO", "open"), dbm=-45),
+                                   telegram("D2-01-12", raw("IO", 31), value("MV", "1", "kWh")),
+                                   telegram("A5-12-01", value("MR", "7", "W"), raw("TI", 15)),
+                                   telegram("A5-06-01", value("ILL1", "1", "lx")),
+                                   telegram("F6-02-01", word("R1", "AI"), word("EB", "pressed"))]:
+            for subtopic in TABLE.readings_by_subtopic(reporting_telegram):
+                self.assertTrue(TABLE.may_report(reporting_telegram.eep, subtopic), (reporting_telegram.eep, subtopic))
 
     def test_reports_nothing_else(self):
         for eep, subtopic in [
@@ -328,7 +337,7 @@ class GoldenRows(unittest.TestCase):
     entity, the count of its numbers, its kind, and its device class, state class and unit."""
 
     def test_rows(self):
-        for eep, reading, unit, wanted in (
+        for eep, reading, unit, expected_row in (
             ("A5-02-05", "TMP", "C", ("TMP", 0, "sensor", "temperature", "measurement", "°C")),
             ("A5-09-04", "CONC", "ppm", ("CONC", 0, "sensor", "carbon_dioxide", "measurement", "ppm")),
             ("A5-12-01", "MR", "kWh", ("MR_kWh", 1, "sensor", "energy", "total_increasing", "kWh")),
@@ -343,9 +352,9 @@ class GoldenRows(unittest.TestCase):
             ("D5-00-01", "CO", "", ("CO", 0, "binary_sensor", "opening", None, None)),
         ):
             with self.subTest((eep, reading, unit)):
-                found = row(eep, reading, unit)
-                more = [found.more.get(key) for key in ("class", "state", "unit")]
-                self.assertEqual((found.topic, found.count, found.entity, *more), wanted)
+                entity_row = row(eep, reading, unit)
+                config = [entity_row.more.get(key) for key in ("class", "state", "unit")]
+                self.assertEqual((entity_row.topic, entity_row.count, entity_row.entity, *config), expected_row)
 
 
 if __name__ == "__main__":

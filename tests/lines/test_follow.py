@@ -20,17 +20,17 @@ def setUpModule():
 class CountedCalls:
     """The module os, which notes the names of its functions that are called."""
 
-    def __init__(self, calls):
-        self.calls = calls
+    def __init__(self, call_names):
+        self.call_names = call_names
 
     def __getattr__(self, name):
-        value = getattr(os, name)
-        if not callable(value):
-            return value
+        function = getattr(os, name)
+        if not callable(function):
+            return function
 
-        def call(*arguments, **named):
-            self.calls.append(name)
-            return value(*arguments, **named)
+        def call(*arguments, **keywords):
+            self.call_names.append(name)
+            return function(*arguments, **keywords)
         return call
 
 
@@ -38,29 +38,29 @@ class FollowedFiles(unittest.TestCase):
     def setUp(self):
         self.path = pathlib.Path(self.enterContext(tempfile.TemporaryDirectory()), "hall.lines")
         self.path.touch()
-        self.logged = []
+        self.logged_lines = []
 
     def assert_logged(self, text):
-        self.assertEqual([text in line for line in self.logged].count(True), 1, self.logged)
+        self.assertEqual([text in line for line in self.logged_lines].count(True), 1, self.logged_lines)
 
     def write(self, text, path=None):
         with (path or self.path).open("a") as file:
             file.write(text)
 
     def follower(self, position=None):
-        return Follower(str(self.path), position, self.logged.append)
+        return Follower(str(self.path), position, self.logged_lines.append)
 
-    def read(self, follower, turns=8):
-        return [line.decode() for _ in range(turns) for line, _ in follower.read()]
+    def read(self, follower, turn_count=8):
+        return [line.decode() for _ in range(turn_count) for line, _ in follower.read()]
 
-    def rotate(self, end=".1", ahead=0.0):
+    def rotate(self, name_end=".1", lines_ahead=0.0):
         """The file gets another name; its time may be ahead."""
-        target = self.path.with_name(self.path.name + end)
-        self.path.rename(target)
-        if ahead:
-            now = target.stat().st_mtime + ahead
-            os.utime(target, (now, now))
-        return target
+        rotated_path = self.path.with_name(self.path.name + name_end)
+        self.path.rename(rotated_path)
+        if lines_ahead:
+            new_path = rotated_path.stat().st_mtime + lines_ahead
+            os.utime(rotated_path, (new_path, new_path))
+        return rotated_path
 
     def test_lines_as_they_end(self):
         follower = self.follower()
@@ -72,13 +72,13 @@ class FollowedFiles(unittest.TestCase):
     def test_positions(self):
         follower = self.follower()
         self.write("one\ntwo\nthr")
-        (_, first), (_, second) = follower.read()
+        (_, first_position), (_, second_position) = follower.read()
         inode = self.path.stat().st_ino
-        self.assertEqual((first, second, follower.position),
+        self.assertEqual((first_position, second_position, follower.position),
                          (Position(inode, 0, b""), Position(inode, 4, b"one\n"), Position(inode, 8, b"one\ntwo\n")))
-        again = self.follower(second)
+        second_follower = self.follower(second_position)
         self.write("ee\n")
-        self.assertEqual(self.read(again), ["two", "three"])
+        self.assertEqual(self.read(second_follower), ["two", "three"])
 
     def test_a_position_has_64_bytes(self):
         self.write("x" * 100 + "\n")
@@ -104,15 +104,15 @@ class FollowedFiles(unittest.TestCase):
         self.assertTrue(follower.is_at_end)
 
     def test_rotation(self):
-        for end in (".1", "-20261127", "-20261127-12"):
+        for name_end in (".1", "-20261127", "-20261127-12"):
             for ahead in (0, 3600, -3600):
-                with self.subTest((end, ahead)):
+                with self.subTest((name_end, ahead)):
                     self.setUp()
                     follower = self.follower()
                     self.write("a\n")
                     self.assertEqual(self.read(follower), ["a"])
-                    old = self.rotate(end, ahead)
-                    self.write("b\n", old)
+                    rotated_path = self.rotate(name_end, ahead)
+                    self.write("b\n", rotated_path)
                     self.write("c\n")
                     self.assertEqual(self.read(follower), ["b", "c"])
 
@@ -120,10 +120,10 @@ class FollowedFiles(unittest.TestCase):
         follower = self.follower()
         self.write("a\n")
         self.read(follower)
-        old = self.rotate()
+        rotated_path = self.rotate()
         self.write("c\n")
         self.assertEqual(follower.read(), [])
-        self.write("b\n", old)
+        self.write("b\n", rotated_path)
         self.assertEqual(self.read(follower), ["b", "c"])
 
     def test_two_rotations_at_once(self):
@@ -133,9 +133,9 @@ class FollowedFiles(unittest.TestCase):
                 follower = self.follower()
                 self.write("a\n")
                 self.read(follower)
-                for end, text in zip(ends, ("b\n", "c\n")):
+                for name_end, text in zip(ends, ("b\n", "c\n")):
                     self.write(text)
-                    self.rotate(end, 0)
+                    self.rotate(name_end, 0)
                 self.write("d\n")
                 self.assertEqual(self.read(follower, 12), ["b", "c", "d"])
 
@@ -143,10 +143,10 @@ class FollowedFiles(unittest.TestCase):
         follower = self.follower()
         self.write("a\nb\n")
         (_, _), (_, position) = follower.read()
-        self.rotate(ahead=3600)
+        self.rotate(lines_ahead=3600)
         self.write("c\n")
         self.assertEqual(self.read(self.follower(position)), ["b", "c"])
-        self.assertEqual(self.logged, [])
+        self.assertEqual(self.logged_lines, [])
 
     def test_an_old_file_that_is_compressed(self):
         """Two rotations: the open file is compressed and removed, and the next one has another name."""
@@ -156,9 +156,9 @@ class FollowedFiles(unittest.TestCase):
         follower = self.follower()
         self.assertEqual(self.read(follower), ["a"])
         self.path.with_name(self.path.name + ".1").rename(self.path.with_name(self.path.name + ".2"))
-        compressed = self.rotate()
+        compressed_path = self.rotate()
         self.write("b\n")
-        compressed.unlink()
+        compressed_path.unlink()
         self.assertEqual(self.read(follower), ["b"])
 
     def test_a_file_that_is_compressed_after_a_restart(self):
@@ -167,18 +167,18 @@ class FollowedFiles(unittest.TestCase):
         self.rotate(".2")
         self.write("a\nb\n")
         position = self.follower().read()[1][1]
-        compressed = self.rotate()
+        compressed_path = self.rotate()
         self.write("c\n")
         follower = self.follower(position)
-        compressed.unlink()
+        compressed_path.unlink()
         self.assertEqual(self.read(follower), ["b", "c"])
 
     def test_other_files_are_no_lines(self):
         follower = self.follower()
         self.write("a\n")
         self.read(follower)
-        for end in (".1.gz", ".bak", "-old", "~", ".1~"):
-            self.write("x\n", self.path.with_name(self.path.name + end))
+        for name_end in (".1.gz", ".bak", "-old", "~", ".1~"):
+            self.write("x\n", self.path.with_name(self.path.name + name_end))
         self.assertEqual(self.read(follower), [])
 
     def test_a_file_that_is_gone(self):
@@ -198,22 +198,23 @@ class FollowedFiles(unittest.TestCase):
 
     def test_a_file_that_has_lost_its_end_in_a_power_failure(self):
         """Its inode is the same. What is left was read before; an incomplete line and NUL bytes may be truncated."""
-        for left in (b"", b"one\n", b"one\ntw", b"one\n\0\0", b"\0\0\0\0two\n\0\0", b"one\ntwo\n" + bytes(50)):
-            with self.subTest(left):
+        for left_bytes in (b"", b"one\n", b"one\ntw", b"one\n\0\0", b"\0\0\0\0two\n\0\0", b"one\ntwo\n" + bytes(50)):
+            with self.subTest(left_bytes):
                 self.setUp()
                 self.write("one\ntwo\nthree\n")
                 follower = self.follower()
                 self.read(follower)
-                self.path.write_bytes(left)
-                again = Follower(str(self.path), follower.position, self.logged.append, is_same_boot=False)
-                self.assertTrue(again.is_found)
-                self.assertEqual(again.position.offset, left.rfind(b"\n") + 1)
-                self.assertEqual(self.read(again), [])
-                os.truncate(self.path, len(left.rstrip(b"\0")))
+                self.path.write_bytes(left_bytes)
+                second_follower = Follower(str(self.path), follower.position, self.logged_lines.append,
+                                           is_same_boot=False)
+                self.assertTrue(second_follower.is_found)
+                self.assertEqual(second_follower.position.offset, left_bytes.rfind(b"\n") + 1)
+                self.assertEqual(self.read(second_follower), [])
+                os.truncate(self.path, len(left_bytes.rstrip(b"\0")))
                 self.write("\nfour\n")
-                self.assertEqual(self.read(again)[-1], "four")
+                self.assertEqual(self.read(second_follower)[-1], "four")
                 self.assert_logged(f"{self.path}: lines were lost, continuing at the end")
-                self.assertEqual(len(self.logged), 1)
+                self.assertEqual(len(self.logged_lines), 1)
 
     def test_a_rotated_file_that_has_lost_its_end_in_a_power_failure(self):
         self.write("one\ntwo\n")
@@ -221,14 +222,14 @@ class FollowedFiles(unittest.TestCase):
         self.read(follower)
         os.truncate(self.rotate(), 4)
         self.write("three\n")
-        again = Follower(str(self.path), follower.position, self.logged.append, is_same_boot=False)
-        self.assertEqual(self.read(again), ["three"])
+        second_follower = Follower(str(self.path), follower.position, self.logged_lines.append, is_same_boot=False)
+        self.assertEqual(self.read(second_follower), ["three"])
 
     def test_a_position_that_is_found_after_a_power_failure(self):
         self.write("one\ntwo\n")
         position = self.follower().read()[1][1]
-        again = Follower(str(self.path), position, self.logged.append, is_same_boot=False)
-        self.assertEqual((again.is_found, self.read(again), self.logged), (True, ["two"], []))
+        second_follower = Follower(str(self.path), position, self.logged_lines.append, is_same_boot=False)
+        self.assertEqual((second_follower.is_found, self.read(second_follower), self.logged_lines), (True, ["two"], []))
 
     def test_whether_the_position_is_found(self):
         self.write("one\ntwo\n")
@@ -238,17 +239,17 @@ class FollowedFiles(unittest.TestCase):
         self.path.write_text("one")
         self.assertFalse(self.follower(position).is_found)
         self.path.unlink()
-        gone = Follower(str(self.path), position, self.logged.append, is_same_boot=False)
-        self.assertEqual((gone.is_found, gone.position), (False, START_OF_NO_FILE))
+        follower_of_gone = Follower(str(self.path), position, self.logged_lines.append, is_same_boot=False)
+        self.assertEqual((follower_of_gone.is_found, follower_of_gone.position), (False, START_OF_NO_FILE))
 
     def test_a_file_that_is_truncated(self):
         """What is left of it is not read again."""
-        for left in ("", "a\n", "a\nb"):
+        for left_bytes in ("", "a\n", "a\nb"):
             self.setUp()
             follower = self.follower()
             self.write("a\nb\nhalf")
             self.read(follower)
-            os.truncate(self.path, len(left))
+            os.truncate(self.path, len(left_bytes))
             self.assertEqual(self.read(follower), [])
             self.write("\nc\n")
             self.assertEqual(self.read(follower)[-1], "c")
@@ -256,16 +257,16 @@ class FollowedFiles(unittest.TestCase):
 
     def test_an_incomplete_line_that_is_truncated(self):
         """Such as NUL bytes, which the start of the gateway removes."""
-        for left in (0, 2):
+        for left_bytes in (0, 2):
             self.setUp()
             follower = self.follower()
             self.write("a\nb\nha" + "\0" * 100)
             self.assertEqual(self.read(follower), ["a", "b"])
-            os.truncate(self.path, 4 + left)
+            os.truncate(self.path, 4 + left_bytes)
             self.assertEqual(self.read(follower), [])
             self.write("\nc\n")
-            self.assertEqual(self.read(follower), ["ha"[:left], "c"])
-            self.assertEqual(self.logged, [])
+            self.assertEqual(self.read(follower), ["ha"[:left_bytes], "c"])
+            self.assertEqual(self.logged_lines, [])
 
     def test_a_long_line_at_the_end_of_a_file_that_was_truncated(self):
         follower = self.follower()
@@ -283,15 +284,15 @@ class FollowedFiles(unittest.TestCase):
         self.assertEqual(self.read(self.follower()), ["a", "b", "d", "\0\0", "e"])
 
     def test_a_link_a_pipe_or_a_folder_in_place_of_the_file(self):
-        other = self.path.with_name("other")
-        other.write_text("x\n")
-        for make, why in ((lambda path: path.symlink_to(other), "it is a symbolic link"),
-                          (os.mkfifo, "it is not a regular file"), (os.mkdir, "it is not a regular file")):
-            with self.subTest(why):
+        other_path = self.path.with_name("other")
+        other_path.write_text("x\n")
+        for make, reason in ((lambda path: path.symlink_to(other_path), "it is a symbolic link"),
+                             (os.mkfifo, "it is not a regular file"), (os.mkdir, "it is not a regular file")):
+            with self.subTest(reason):
                 self.path.unlink()
                 make(self.path)
                 follower = self.follower()
-                self.assertEqual((self.read(follower), follower.fault), ([], why))
+                self.assertEqual((self.read(follower), follower.fault), ([], reason))
                 self.assertIsNone(position_at_end(str(self.path)))
                 self.path.rmdir() if self.path.is_dir() else self.path.unlink()
                 self.assertEqual(self.read(follower), [])
@@ -308,15 +309,15 @@ class FollowedFiles(unittest.TestCase):
         self.assertEqual(self.read(follower), [])
         self.write("lf\nnew\n")
         self.assertEqual(self.read(follower), ["half", "new"])
-        self.assertEqual(self.logged, [f"{self.path}: can be read now, continuing at its end"])
+        self.assertEqual(self.logged_lines, [f"{self.path}: can be read now, continuing at its end"])
 
     def test_a_link_a_pipe_or_a_folder_in_place_of_a_rotated_file(self):
-        other = self.path.with_name("other")
-        other.write_text("x\n")
+        other_path = self.path.with_name("other")
+        other_path.write_text("x\n")
         self.write("a\nb\n")
         position = self.follower().read()[1][1]
-        for end, make in ((".4", lambda path: path.symlink_to(other)), (".3", os.mkfifo), (".1", os.mkdir)):
-            make(self.path.with_name(self.path.name + end))
+        for name_end, make in ((".4", lambda path: path.symlink_to(other_path)), (".3", os.mkfifo), (".1", os.mkdir)):
+            make(self.path.with_name(self.path.name + name_end))
         follower = self.follower(position)
         self.assertEqual(self.read(follower), ["b"])
         self.rotate(".2")
@@ -328,12 +329,12 @@ class FollowedFiles(unittest.TestCase):
         self.write("a\n")
         follower = self.follower()
         self.read(follower)
-        calls = []
-        with mock.patch("enogate_lines.follow.os", CountedCalls(calls)):
+        call_names = []
+        with mock.patch("enogate_lines.follow.os", CountedCalls(call_names)):
             for _ in range(3):
                 follower.read()
-        self.assertEqual(len(calls) / 3, 4, calls)
-        self.assertLess(set(calls), {"fstat", "pread", "lstat"} | {"path"})
+        self.assertEqual(len(call_names) / 3, 4, call_names)
+        self.assertLess(set(call_names), {"fstat", "pread", "lstat"} | {"path"})
 
     def test_a_line_without_its_end(self):
         follower = self.follower()
@@ -347,9 +348,9 @@ class FollowedFiles(unittest.TestCase):
     def test_a_line_of_two_megabytes(self):
         follower = self.follower()
         self.write("x" * (2 * MAX_READ + 10))
-        found = [line for _ in range(6) for line, _ in follower.read()]
-        self.assertTrue(found and all(len(line) <= 2 * MAX_READ for line in found))
-        self.assertLessEqual(len(follower.rest), MAX_READ)
+        lines = [line for _ in range(6) for line, _ in follower.read()]
+        self.assertTrue(lines and all(len(line) <= 2 * MAX_READ for line in lines))
+        self.assertLessEqual(len(follower.partial_line), MAX_READ)
         self.write("\nb\n")
         self.assertEqual(self.read(follower)[-1], "b")
 
@@ -370,14 +371,14 @@ class FollowedFiles(unittest.TestCase):
         follower = self.follower()
         self.write("a\n")
         self.read(follower)
-        old = self.rotate()
+        rotated_path = self.rotate()
         self.write("d\n")
-        found = []
+        lines = []
         for text in ("b\n", "c\n"):
-            found += self.read(follower, 1)
-            self.write(text, old)
-            found += self.read(follower, 1)
-        self.assertEqual(found + self.read(follower), ["b", "c", "d"])
+            lines += self.read(follower, 1)
+            self.write(text, rotated_path)
+            lines += self.read(follower, 1)
+        self.assertEqual(lines + self.read(follower), ["b", "c", "d"])
 
     def test_an_old_position_and_a_broken_link(self):
         self.write("a\nb\n")
@@ -400,10 +401,10 @@ class FollowedFiles(unittest.TestCase):
         self.write("c\n")
         self.assertEqual(self.read(follower), ["b", "c"])
         self.assertEqual(self.read(self.follower(position)), ["b", "c"])
-        self.assertEqual(self.logged, [])
+        self.assertEqual(self.logged_lines, [])
 
     def test_files_are_closed(self):
-        before = len(os.listdir("/proc/self/fd"))
+        descriptor_count = len(os.listdir("/proc/self/fd"))
         follower = self.follower()
         for number in range(5):
             self.write(f"{number}\n")
@@ -413,7 +414,7 @@ class FollowedFiles(unittest.TestCase):
         self.read(follower)
         follower.close()
         follower.close()
-        self.assertEqual(len(os.listdir("/proc/self/fd")), before)
+        self.assertEqual(len(os.listdir("/proc/self/fd")), descriptor_count)
 
     def test_the_end_of_a_file(self):
         for text in ("", "a\n", "x" * 100 + "\nhalf"):
@@ -427,22 +428,22 @@ class FollowedFiles(unittest.TestCase):
 
     def test_the_end_of_a_file_that_grows_meanwhile(self):
         """What was written after the end was noted is new, and what was there before it is not read again."""
-        real = os.pread
+        original_pread = os.pread
 
         def grows(*arguments):
             self.write("new\n")
-            return real(*arguments)
-        for old in ("", "a\n", "x" * 100 + "\n"):
-            self.path.write_text(old)
+            return original_pread(*arguments)
+        for old_text in ("", "a\n", "x" * 100 + "\n"):
+            self.path.write_text(old_text)
             with mock.patch("enogate_lines.follow.os.pread", grows):
                 position = position_at_end(str(self.path))
-            self.assertEqual((position.offset, position.last), (len(old), old[-64:].encode()))
+            self.assertEqual((position.offset, position.last), (len(old_text), old_text[-64:].encode()))
             self.assertEqual(self.read(self.follower(position)), ["new"])
-        self.assertEqual(self.logged, [])
+        self.assertEqual(self.logged_lines, [])
 
     def test_the_names_of_rotated_files(self):
-        for end in (".2", ".10", "-20261127", "-20261126", ".1.gz", ".bak"):
-            self.write("x\n", self.path.with_name(self.path.name + end))
+        for name_end in (".2", ".10", "-20261127", "-20261126", ".1.gz", ".bak"):
+            self.write("x\n", self.path.with_name(self.path.name + name_end))
         ends = [path.removeprefix(str(self.path)) for path in rotated_files(str(self.path))]
         self.assertEqual(ends, ["-20261126", "-20261127", ".10", ".2", ""])
 

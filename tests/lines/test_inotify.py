@@ -71,10 +71,10 @@ class WatchedFileWaits(unittest.TestCase):
         self.assert_notices(lambda: os.truncate(self.desk, 0))
 
     def test_lines_of_another_gateway_end_none(self):
-        other = self.log / "roof.lines"
-        other.touch()
+        other_path = self.log / "roof.lines"
+        other_path.touch()
         self.start()
-        append(other, b"line\n")
+        append(other_path, b"line\n")
         self.assertFalse(self.waits())
 
     def test_a_rotation(self):
@@ -98,9 +98,9 @@ class WatchedFileWaits(unittest.TestCase):
 
     def test_a_file_that_is_replaced(self):
         self.start()
-        new = self.run_folder / "new"
-        self.assert_notices(new.touch)
-        self.assert_notices(lambda: new.replace(self.desk))
+        new_path = self.run_folder / "new"
+        self.assert_notices(new_path.touch)
+        self.assert_notices(lambda: new_path.replace(self.desk))
         self.assert_notices(lambda: append(self.desk, b"status\n"))
 
     def test_lines_that_may_be_read_now(self):
@@ -134,32 +134,33 @@ class WithoutInotify(unittest.TestCase):
     """Where inotify does not work, the files are looked at ten times a second."""
 
     def setUp(self):
-        self.logged = []
+        self.logged_lines = []
 
-    def longest(self, number, **calls):
+    def longest(self, error_number, **functions):
         """The longest wait, the second time, with these functions of the C library, which fail with this number."""
-        library = types.SimpleNamespace(**calls)
+        library = types.SimpleNamespace(**functions)
         with mock.patch.object(ctypes, "CDLL", lambda *_, **__: library), \
-             mock.patch.object(ctypes, "get_errno", lambda: number):
-            files = WatchedFiles(["/log/hall.lines", "/run/desk"], self.logged.append)
+             mock.patch.object(ctypes, "get_errno", lambda: error_number):
+            files = WatchedFiles(["/log/hall.lines", "/run/desk"], self.logged_lines.append)
             files.longest_wait()
             return files.longest_wait()
 
     def test_no_function(self):
         self.assertEqual(self.longest(0), 0.1)
-        self.assertIn("no inotify (", self.logged[0])
+        self.assertIn("no inotify (", self.logged_lines[0])
 
     def test_too_many_instances(self):
         self.assertEqual(self.longest(errno.EMFILE, inotify_init1=lambda _: -1), 0.1)
-        self.assertEqual(self.logged, [
+        self.assertEqual(self.logged_lines, [
             "no inotify (Too many open files): the lines are looked at every 0.1 seconds"])
 
     def test_a_file_that_may_not_be_watched(self):
-        for number, longest in ((errno.EACCES, 0.1), (errno.ENOSPC, 0.1), (errno.ENOENT, 1.0)):
-            with self.subTest(number):
-                self.assertEqual(longest, self.longest(
-                    number, inotify_init1=lambda _: 3, inotify_add_watch=lambda _, path, __: -1 if b"." in path else 1))
-        self.assertEqual(self.logged, [])
+        for error_number, longest_wait in ((errno.EACCES, 0.1), (errno.ENOSPC, 0.1), (errno.ENOENT, 1.0)):
+            with self.subTest(error_number):
+                self.assertEqual(longest_wait, self.longest(
+                    error_number, inotify_init1=lambda _: 3,
+                    inotify_add_watch=lambda _, path, __: -1 if b"." in path else 1))
+        self.assertEqual(self.logged_lines, [])
 
 
 def append(path, text):

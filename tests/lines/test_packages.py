@@ -29,9 +29,9 @@ def imported_modules(path):
 
 def import_edge(package, module):
     """A package and the package that it imports; of the bridge, and for the building of the command, the module."""
-    parts = module.split(".")
-    has_modules = parts[0] == "enogate_mqtt" or (package, parts[0]) == ("enogate_building", "enogate_ctl")
-    return package, ".".join(parts[:2] if has_modules else parts[:1])
+    module_parts = module.split(".")
+    has_modules = module_parts[0] == "enogate_mqtt" or (package, module_parts[0]) == ("enogate_building", "enogate_ctl")
+    return package, ".".join(module_parts[:2] if has_modules else module_parts[:1])
 
 
 def quoted_names(text):
@@ -46,10 +46,10 @@ def names_in_first_cells(table):
 
 class PackageImports(unittest.TestCase):
     def test_edges(self):
-        found = {import_edge(path.parent.name, module)
+        edges = {import_edge(path.parent.name, module)
                  for path in CONTRIB.glob("enogate_*/*.py") for module in imported_modules(path)
                  if module.startswith("enogate_") and not module.startswith(f"{path.parent.name}.")}
-        self.assertEqual(found, ALLOWED_IMPORTS)
+        self.assertEqual(edges, ALLOWED_IMPORTS)
 
     def test_the_map_names_each_module(self):
         page = (CONTRIB / "README.md").read_text("utf-8")

@@ -14,9 +14,9 @@ from oracle.orders import MAX_VALUES, ORDERS  # noqa: E402
 from oracle.profiles import SUPPORTED_PROFILES, eep_text  # noqa: E402
 
 
-def table(page, head):
+def table(page, heading):
     """The rows of the table of the guide with this head, each with its cells."""
-    text = (ROOT / "docs" / "guide" / page).read_text().split(f"| {head} |")[1].split("\n\n")[0]
+    text = (ROOT / "docs" / "guide" / page).read_text().split(f"| {heading} |")[1].split("\n\n")[0]
     return [[cell.strip() for cell in row.strip("|").split(" | ")] for row in text.split("\n")[2:]]
 
 
@@ -31,14 +31,15 @@ class GuideTables(unittest.TestCase):
         self.assertEqual(share.device_kind("A5-38-08"), "")
 
     def test_the_kinds_of_the_guide(self):
-        kinds, start = {}, ""
+        profiles_by_kind, start = {}, ""
         for cell, kind, _ in table("output.md", "Profile | Device | Readings"):
-            for first, last in re.findall(r"`([0-9A-F-]+)`(?: to `-([0-9A-F]{2})`)?", cell):
-                start = first if len(first) == 8 else start[:5] + first
-                for number in range(int(start[6:], 16), int(last or start[6:], 16) + 1):
-                    kinds.setdefault(kind, set()).add(share.device_kind(f"{start[:6]}{number:02X}"))
-        self.assertEqual({kind: "; ".join(sorted(found, key=kind.find)) for kind, found in kinds.items()},
-                         {kind: kind for kind in kinds})
+            for first_profile, last_type in re.findall(r"`([0-9A-F-]+)`(?: to `-([0-9A-F]{2})`)?", cell):
+                start = first_profile if len(first_profile) == 8 else start[:5] + first_profile
+                for number in range(int(start[6:], 16), int(last_type or start[6:], 16) + 1):
+                    profiles_by_kind.setdefault(kind, set()).add(share.device_kind(f"{start[:6]}{number:02X}"))
+        self.assertEqual({kind: "; ".join(sorted(kinds_of_profile, key=kind.find))
+                          for kind, kinds_of_profile in profiles_by_kind.items()},
+                         {kind: kind for kind in profiles_by_kind})
 
     def test_usual_profiles(self):
         """The column "Supported" is right, and each kind of device is there."""
@@ -72,15 +73,15 @@ class GuideTables(unittest.TestCase):
     def test_errors_of_orders(self):
         for row in table("orders.md", "Order | What it does | Answer | Possible errors"):
             forms = re.findall(r"`([^`]+)`", row[0])
-            wanted = set(re.findall(r"`([a-z_]+)`", row[-1]))
+            expected_errors = set(re.findall(r"`([a-z_]+)`", row[-1]))
             verb = forms[0].split(" ")[0]
             if verb == "list" or " ID" in forms[0]:
-                wanted |= PACKET_ERRORS
+                expected_errors |= PACKET_ERRORS
             if verb == "status":
-                wanted |= {"memory"}
+                expected_errors |= {"memory"}
             with self.subTest(forms[0]):
-                mine = dict(share.order_forms()[verb])
-                self.assertEqual(set().union(*(mine[form] for form in forms)), wanted)
+                errors_by_form = dict(share.order_forms()[verb])
+                self.assertEqual(set().union(*(errors_by_form[form] for form in forms)), expected_errors)
 
     def test_words(self):
         self.assertEqual(list(share.texts_by_word("error")), names(table("output.md", "Error | When")))
@@ -90,8 +91,8 @@ class GuideTables(unittest.TestCase):
                          names(table("devices.md", "`why` | Meaning | What to do")))
         self.assertEqual(list(share.texts_by_word("rorg")), ["F6", "D5", "A5", "D2", "D4"])
         for errors in share.order_forms().values():
-            for _, found in errors:
-                self.assertLessEqual(found, share.texts_by_word("error").keys())
+            for _, words_of_error in errors:
+                self.assertLessEqual(words_of_error, share.texts_by_word("error").keys())
 
 
 if __name__ == "__main__":

@@ -75,34 +75,36 @@ WATCHED_UNITS = ("agent", "heard", "mosquitto", "enogate@hall", "enogate-mqtt@ha
 def missing_requirements():
     """The Debian packages that are missing on this machine, and what else it lacks."""
     path = f"{os.environ['PATH']}:/usr/sbin:/sbin"
-    found = [package for command, package in PACKAGE_BY_COMMAND.items() if not shutil.which(command, path=path)]
-    return found + ["root"] * (os.geteuid() != 0) + ["the built program (make build)"] * (not PROGRAM.exists())
+    missing_packages = [package
+                        for command, package in PACKAGE_BY_COMMAND.items() if not shutil.which(command, path=path)]
+    return missing_packages + ["root"] * (os.geteuid()
+                                          != 0) + ["the built program (make build)"] * (not PROGRAM.exists())
 
 
 def run_command(*words, **options):
     """Runs a command that must succeed, and returns what it printed."""
-    done = subprocess.run(words, stdout=subprocess.PIPE, stderr=subprocess.STDOUT, text=True, **options)
-    assert done.returncode == 0, f"{' '.join(map(str, words))}: {done.stdout}"
-    return done.stdout
+    process = subprocess.run(words, stdout=subprocess.PIPE, stderr=subprocess.STDOUT, text=True, **options)
+    assert process.returncode == 0, f"{' '.join(map(str, words))}: {process.stdout}"
+    return process.stdout
 
 
 def packages_with_dependencies():
     """The packages of the system, with those that the package depends on."""
     fields = (ROOT / "packaging/debian/control").read_text()
     depends = re.search(r"^Depends: (.*)$", fields, re.MULTILINE)[1].split(",")
-    return sorted({*PACKAGES, *(re.match(r"\s*([^\s:]+)", one)[1] for one in depends)})
+    return sorted({*PACKAGES, *(re.match(r"\s*([^\s:]+)", dependency)[1] for dependency in depends)})
 
 
 def build_debian_folder():
     """The folder of the Debian system, which is made if its list of packages is new."""
     names = ",".join(packages_with_dependencies())
-    made = CACHE_FOLDER / "debian"
-    listed = CACHE_FOLDER / "packages"
-    if not listed.exists() or listed.read_text() != names:
-        shutil.rmtree(made, ignore_errors=True)
-        run_command("mmdebstrap", "--variant=minbase", f"--include={names}", DEBIAN_SUITE, made)
-        listed.write_text(names)
-    return made
+    debian_folder = CACHE_FOLDER / "debian"
+    package_list = CACHE_FOLDER / "packages"
+    if not package_list.exists() or package_list.read_text() != names:
+        shutil.rmtree(debian_folder, ignore_errors=True)
+        run_command("mmdebstrap", "--variant=minbase", f"--include={names}", DEBIAN_SUITE, debian_folder)
+        package_list.write_text(names)
+    return debian_folder
 
 
 def build_disk():
@@ -114,23 +116,24 @@ def build_disk():
         run_command("make", "-s", "-o", PROGRAM.relative_to(ROOT), "package", f"PACKAGES={work}", cwd=ROOT)
         package, = work.glob("enogate_*.deb")
         base = build_debian_folder()
-        parts = package.read_bytes() + pathlib.Path(__file__).read_bytes() + (CACHE_FOLDER / "packages").read_bytes()
-        digest = hashlib.sha256(parts).hexdigest()
-        made = [CACHE_FOLDER / name for name in ("disk", "kernel", "initrd")]
+        digested_bytes = package.read_bytes() + pathlib.Path(__file__).read_bytes() + (CACHE_FOLDER
+                                                                                       / "packages").read_bytes()
+        digest = hashlib.sha256(digested_bytes).hexdigest()
+        made_files = [CACHE_FOLDER / name for name in ("disk", "kernel", "initrd")]
         if (CACHE_FOLDER / "digest").exists() and (CACHE_FOLDER / "digest").read_text() == digest:
-            return made
+            return made_files
         (CACHE_FOLDER / "digest").unlink(missing_ok=True)
         root = work / "root"
         run_command("cp", "-a", base, root)
         shutil.copy(package, root / "root")
         run_command("chroot", root, "dpkg", "-i", f"/root/{package.name}")
         configure_system(root)
-        shutil.copy(next((root / "boot").glob("vmlinuz-*")), made[1])
-        make_initrd(root, work / "initrd", made[2])
-        made[0].unlink(missing_ok=True)
-        run_command("mke2fs", "-q", "-t", "ext4", "-E", "lazy_itable_init=0", "-d", root, made[0], DISK_SIZE)
+        shutil.copy(next((root / "boot").glob("vmlinuz-*")), made_files[1])
+        make_initrd(root, work / "initrd", made_files[2])
+        made_files[0].unlink(missing_ok=True)
+        run_command("mke2fs", "-q", "-t", "ext4", "-E", "lazy_itable_init=0", "-d", root, made_files[0], DISK_SIZE)
         (CACHE_FOLDER / "digest").write_text(digest)
-        return made
+        return made_files
 
 
 def configure_system(root):
@@ -139,9 +142,9 @@ def configure_system(root):
         (root / name).parent.mkdir(parents=True, exist_ok=True)
         (root / name).write_text(text)
     rules = (root / "usr/lib/udev/rules.d" / RULES_FILE).read_text()
-    for own, adapter in ADAPTER_NAMES.items():
-        assert f'"{own}"' in rules, rules
-        rules = rules.replace(f'"{own}"', f'"{own}|{adapter}"')
+    for link_name, adapter in ADAPTER_NAMES.items():
+        assert f'"{link_name}"' in rules, rules
+        rules = rules.replace(f'"{link_name}"', f'"{link_name}|{adapter}"')
     (root / "etc/udev/rules.d" / RULES_FILE).write_text(rules)
     run_command("chroot", root, "systemctl", "mask", *MASKED_UNITS)
     run_command("chroot", root, "systemctl", "enable", *WATCHED_UNITS)
@@ -157,13 +160,13 @@ def make_initrd(root, work, initrd):
         (work / name).mkdir(parents=True)
     shutil.copy(shutil.which("busybox"), work / "bin")
     kernel = next((root / "lib/modules").iterdir()).name
-    needed = {}
+    needed_modules = {}
     for module in INITRD_MODULES:
         for line in run_command("chroot", root, "modprobe", "-S", kernel, "--show-depends", module).splitlines():
             if line.startswith("insmod "):
                 path = line.split()[1]
-                needed[os.path.basename(path)] = shutil.copy(f"{root}{path}", work)
-    (work / "order").write_text("\n".join(needed) + "\n")
+                needed_modules[os.path.basename(path)] = shutil.copy(f"{root}{path}", work)
+    (work / "order").write_text("\n".join(needed_modules) + "\n")
     (work / "init").write_text(INIT_SCRIPT)
     (work / "init").chmod(0o755)
     run_command("sh", "-c", 'cd "$0" && find . | busybox cpio -o -H newc >"$1"', work, initrd)

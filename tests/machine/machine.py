@@ -27,7 +27,7 @@ EMULATION_ARGUMENTS = ["-accel", "tcg", "-icount", "shift=2,sleep=on", "-cpu", "
 # The log of QEMU's driver blklogwrites consists of sectors. The first one has the head of the log. An entry has a
 # sector for its numbers (the first sector, how many, flags), and then what was written.
 SECTOR_SIZE, ENTRY, FLUSH, DISCARD = 512, struct.Struct("<QQQ"), 1, 4
-COMMAND_END = re.compile(r"\n?\x04(\d+)\n")
+COMMAND_END_PATTERN = re.compile(r"\n?\x04(\d+)\n")
 
 
 def qemu_processor_arguments():
@@ -41,7 +41,7 @@ class QemuMachine:
     """A machine that boots from a copy of this disk, in this folder, with the clock at `clock`."""
 
     def __init__(self, work, disk, kernel, initrd, clock=""):
-        self.work, self.before = work, disk
+        self.work, self.disk_before = work, disk
         self.disk, self.log = work / "disk", work / "log"
         for path in (self.log, *work.glob("*.socket")):
             path.unlink(missing_ok=True)
@@ -83,26 +83,26 @@ class QemuMachine:
 
     def receive_output(self):
         """Waits for more of what the commands print. Returns whether there is more."""
-        got = self.agent.recv(65536)
-        self.text += got.decode(errors="replace")
-        return bool(got)
+        chunk = self.agent.recv(65536)
+        self.text += chunk.decode(errors="replace")
+        return bool(chunk)
 
     def run_command(self, command, within=60):
         """Runs a command in the machine, and returns what it printed."""
         self.send_command(f"timeout -k 5 {within} bash -c {shlex.quote(command)}")
-        while not (end := COMMAND_END.search(self.text)):
+        while not (end_match := COMMAND_END_PATTERN.search(self.text)):
             console = self.work / "console"
             assert self.receive_output(), f"QEMU has ended: {console.read_text(errors='replace')[-500:]}"
-        found, self.text = self.text[:end.start()], self.text[end.end():]
-        return found
+        output, self.text = self.text[:end_match.start()], self.text[end_match.end():]
+        return output
 
-    def run_until_printed(self, command, wanted):
+    def run_until_printed(self, command, pattern):
         """Runs a command until it prints this, and returns what it printed."""
-        end = time.monotonic() + HOST_TIMEOUT
-        while not re.search(wanted, found := self.run_command(command)):
-            assert time.monotonic() < end, f"`{command}` does not print {wanted!r}, but {found[-1000:]!r}"
+        deadline = time.monotonic() + HOST_TIMEOUT
+        while not re.search(pattern, output := self.run_command(command)):
+            assert time.monotonic() < deadline, f"`{command}` does not print {pattern!r}, but {output[-1000:]!r}"
             time.sleep(POLL_PAUSE)
-        return found
+        return output
 
     def start_gateway(self):
         """Plugs the first stick in, if it is not, and waits until the gateway answers."""
@@ -114,9 +114,9 @@ class QemuMachine:
         """Waits until the gateway answers."""
         self.run_until_printed("enogatectl --timeout 20 hall status", "learn window *closed")
 
-    def wait_for_journal(self, wanted):
+    def wait_for_journal(self, pattern):
         """Waits until the journal of the gateway has this."""
-        return self.run_until_printed(f"journalctl -o cat -t enogate-hall --since {self.since}", wanted)
+        return self.run_until_printed(f"journalctl -o cat -t enogate-hall --since {self.since}", pattern)
 
     def kill_qemu(self):
         """Ends QEMU, with everything that it holds."""
@@ -135,13 +135,13 @@ class QemuMachine:
         """The power failed just after a write since the log had the size `start`. `disk` becomes what the disk had
         then, with a part of what was written since the last flush. Returns the size of the log at this moment."""
         self.kill_qemu()
-        copy_disk(self.before, disk)
-        found = list(log_entries(self.log.read_bytes()))
-        number = rng.choice([number for number, record in enumerate(found, 1)
-                             if record.end > start and not record.is_flush])
+        copy_disk(self.disk_before, disk)
+        log_records = list(log_entries(self.log.read_bytes()))
+        record_number = rng.choice([record_number for record_number, record in enumerate(log_records, 1)
+                                    if record.end > start and not record.is_flush])
         with open(disk, "r+b") as file:
-            records.PowerCutter(DiskFile(file), found).image_after(number, mode, rng)
-        return found[number - 1].end
+            records.PowerCutter(DiskFile(file), log_records).image_after(record_number, mode, rng)
+        return log_records[record_number - 1].end
 
 
 class DiskFile:
@@ -153,27 +153,27 @@ class DiskFile:
     def copy(self):
         return self
 
-    def write(self, offset, data):
+    def write(self, offset, content):
         self.file.seek(offset)
-        self.file.write(data)
+        self.file.write(content)
 
 
 def log_entries(log):
     """The writes and flushes in a log. The last one may be incomplete."""
-    place = SECTOR_SIZE
-    while place + SECTOR_SIZE <= len(log):
-        sector, count, flags = ENTRY.unpack_from(log, place)
+    offset = SECTOR_SIZE
+    while offset + SECTOR_SIZE <= len(log):
+        sector, count, flags = ENTRY.unpack_from(log, offset)
         size = 0 if flags & DISCARD else count * SECTOR_SIZE
-        start, place = place + SECTOR_SIZE, place + SECTOR_SIZE + size
-        if place > len(log) or not count + flags:
+        start, offset = offset + SECTOR_SIZE, offset + SECTOR_SIZE + size
+        if offset > len(log) or not count + flags:
             return
         if size:
-            yield records.DiskRecord(sector * SECTOR_SIZE, log[start:place], place)
+            yield records.DiskRecord(sector * SECTOR_SIZE, log[start:offset], offset)
         if flags & FLUSH:
-            yield records.DiskRecord(-1, b"", place)
+            yield records.DiskRecord(-1, b"", offset)
 
 
-def copy_disk(old, new):
+def copy_disk(source, target):
     """Copies a disk, without its empty parts."""
-    subprocess.run(["cp", "--sparse=always", old, new], check=True)
+    subprocess.run(["cp", "--sparse=always", source, target], check=True)
 

@@ -16,8 +16,8 @@ class SimulatedStick:
     given to send."""
 
     def __init__(self, path, base=BASE_ID):
-        self.path, self.base, self.sent = path, base, []
-        self.socket, self.rest = None, b""
+        self.path, self.base, self.sent_telegrams = path, base, []
+        self.socket, self.unparsed_bytes = None, b""
 
     def plug(self):
         self.socket = socket.socket(socket.AF_UNIX)
@@ -25,39 +25,39 @@ class SimulatedStick:
         threading.Thread(target=self.answer_packets, args=(self.socket,), daemon=True).start()
 
     def unplug(self):
-        old, self.socket = self.socket, None
-        old.shutdown(socket.SHUT_RDWR)
-        old.close()
+        old_socket, self.socket = self.socket, None
+        old_socket.shutdown(socket.SHUT_RDWR)
+        old_socket.close()
 
     def answer_packets(self, line):
         """Answers each packet until the stick is unplugged."""
-        self.rest = b""
+        self.unparsed_bytes = b""
         with contextlib.suppress(OSError):
-            while got := line.recv(4096):
-                for one in self.complete_packets(self.rest + got):
-                    self.answer_packet(*one)
+            while chunk := line.recv(4096):
+                for parsed_packet in self.complete_packets(self.unparsed_bytes + chunk):
+                    self.answer_packet(*parsed_packet)
 
     def complete_packets(self, stream):
         """The packets in these bytes. What may begin another one is kept."""
-        self.rest = yield from packets_in_stream(stream)
+        self.unparsed_bytes = yield from packets_in_stream(stream)
 
-    def answer_packet(self, kind, data, optional):
+    def answer_packet(self, kind, packet_data, optional):
         """Answers a packet as the module does; an actuator that is switched reports its state."""
-        if kind == COMMAND_TYPE and data[0] == READ_BASE_COMMAND:
+        if kind == COMMAND_TYPE and packet_data[0] == READ_BASE_COMMAND:
             self.send_to_machine(packet(RESPONSE_TYPE, b"\0" + self.base.to_bytes(4, "big")))
             return
         self.send_to_machine(packet(RESPONSE_TYPE, b"\0"))
         if kind == RADIO_TYPE:
-            self.sent.append(data)
-            if data.startswith(SWITCH_OUTPUT_PREFIX):
-                state = bytes([4, 0x60 | data[2], 0x80 | data[3]])
+            self.sent_telegrams.append(packet_data)
+            if packet_data.startswith(SWITCH_OUTPUT_PREFIX):
+                state = bytes([4, 0x60 | packet_data[2], 0x80 | packet_data[3]])
                 self.send_to_machine(telegram_packet(
                     0xD2, state, int.from_bytes(optional[1:5], "big"), 0, radio_optional_data(1, self.base)
                 ))
 
-    def send_to_machine(self, received):
+    def send_to_machine(self, packet_bytes):
         """The module receives these bytes. Without a stick they are lost."""
         line = self.socket
         if line:
             with contextlib.suppress(OSError):
-                line.sendall(received)
+                line.sendall(packet_bytes)

@@ -42,9 +42,9 @@ FUNCTION_NAMES = ["tiny::once", "tiny::twice", "tiny::thrice", "tiny::other", "t
 CALLEES_BY_FUNCTION = {"tiny::twice": ["tiny::once"], "tiny::thrice": ["tiny::once", "tiny::twice"]}
 
 
-def mutant_text(path, *pairs):
+def mutant_text(path, *text_pairs):
     """The text of a mutant: pairs of old and new texts."""
-    return f"file: {path}\n" + "".join(f"old: {old}\nnew: {new}\n" for old, new in pairs)
+    return f"file: {path}\n" + "".join(f"old: {old_text}\nnew: {new_text}\n" for old_text, new_text in text_pairs)
 
 
 class FakeChecker:
@@ -62,34 +62,34 @@ class FakeChecker:
 
     def check(self, texts, only=()):
         texts = {**self.sources, **texts}
-        self.labels.append(sum("WRONG" in it for it in texts.values()))
+        self.labels.append(sum("WRONG" in source for source in texts.values()))
         self.only.append([*only])
-        whole = "\n".join(texts.values())
-        if "GIBBERISH" in whole:
+        all_sources = "\n".join(texts.values())
+        if "GIBBERISH" in all_sources:
             return CheckReport(1, "src/lib.rt:1:1: error[syntax]: what is this\n")
-        if "DEEP" in whole:
+        if "DEEP" in all_sources:
             return CheckReport(3, "src/lib.rt:1:1: error: antt ran out of steps\nantt ran out of the steps\n")
-        said = {name: "proved" for name in FUNCTION_NAMES}
-        functions = [it for path, text in texts.items() for it in split_functions(path, text)[0]]
+        verdict_by_name = {name: "proved" for name in FUNCTION_NAMES}
+        functions = [source for path, text in texts.items() for source in split_functions(path, text)[0]]
         for name, function in zip(FUNCTION_NAMES, functions):
             if "HIDDEN" in function.body:
-                del said[name]
-            elif "WRONG" in function.body or "STEP: u64 = WRONG" in whole:
-                said[name] = "not proved"
+                del verdict_by_name[name]
+            elif "WRONG" in function.body or "STEP: u64 = WRONG" in all_sources:
+                verdict_by_name[name] = "not proved"
         for word, name in (("WORSE", "tiny::other"), ("WORST", "tiny::once")):
-            if word in whole:
-                said[name] = "not proved"
+            if word in all_sources:
+                verdict_by_name[name] = "not proved"
         for name, callees in CALLEES_BY_FUNCTION.items():
-            refused = [it for it in callees if said.get(it, "proved") != "proved"]
-            if refused and said.get(name) == "proved":
-                said[name] = f"no proof: it calls {refused[0]}, which is not proved"
+            refused_names = [source for source in callees if verdict_by_name.get(source, "proved") != "proved"]
+            if refused_names and verdict_by_name.get(name) == "proved":
+                verdict_by_name[name] = f"no proof: it calls {refused_names[0]}, which is not proved"
         if only:
-            reached = {*only, *(callee for name in only for callee in CALLEES_BY_FUNCTION.get(name, []))}
-            said = {name: text for name, text in said.items() if name in reached}
-        proved = all(it == "proved" for it in said.values())
-        lines = [f"fn {name}: {text}" for name, text in said.items()]
-        last = f"only={len(only)} proved=?" if only else "logic=proved" if proved else "logic=not-proved"
-        return CheckReport(0 if proved else 1, "\n".join([*lines, last]) + "\n")
+            reached_names = {*only, *(callee for name in only for callee in CALLEES_BY_FUNCTION.get(name, []))}
+            verdict_by_name = {name: text for name, text in verdict_by_name.items() if name in reached_names}
+        is_proved = all(source == "proved" for source in verdict_by_name.values())
+        lines = [f"fn {name}: {text}" for name, text in verdict_by_name.items()]
+        last_line = f"only={len(only)} proved=?" if only else "logic=proved" if is_proved else "logic=not-proved"
+        return CheckReport(0 if is_proved else 1, "\n".join([*lines, last_line]) + "\n")
 
 
 class CrateFolderTest(unittest.TestCase):
@@ -104,6 +104,6 @@ class CrateFolderTest(unittest.TestCase):
 
     def write_file(self, path, text):
         os.makedirs(os.path.dirname(f"{self.folder}/{path}"), exist_ok=True)
-        with open(f"{self.folder}/{path}", "w", encoding="utf-8") as it:
-            it.write(text)
+        with open(f"{self.folder}/{path}", "w", encoding="utf-8") as file:
+            file.write(text)
         return f"{self.folder}/{path}"

@@ -37,26 +37,26 @@ class CheckerTest(CrateFolderTest):
         self.addCleanup(self.checker.close)
 
     def kept_results(self, check):
-        return [it for it in check.printed.splitlines() if it.startswith("kept: ")]
+        return [line for line in check.output.splitlines() if line.startswith("kept: ")]
 
     def test_the_words(self):
-        first = self.checker.check_unchanged().printed.splitlines()[0]
-        self.assertEqual(first, f"words: check words --jobs 1 keeps=False --incremental {self.checker.seed}")
+        first_line = self.checker.check_unchanged().output.splitlines()[0]
+        self.assertEqual(first_line, f"words: check words --jobs 1 keeps=False --incremental {self.checker.seed}")
 
     def test_the_words_for_some_functions(self):
         self.checker.check_unchanged()
-        first = self.checker.check({}, ["tiny::once", "tiny::pairs::Pair::sum"]).printed.splitlines()[0]
-        self.assertIn(" --jobs 1 --only=once --only=pairs::Pair::sum keeps=False ", first)
+        first_line = self.checker.check({}, ["tiny::once", "tiny::pairs::Pair::sum"]).output.splitlines()[0]
+        self.assertIn(" --jobs 1 --only=once --only=pairs::Pair::sum keeps=False ", first_line)
 
     def test_the_texts_stand_in_place_of_the_files(self):
         self.checker.check_unchanged()
         check = self.checker.check({"src/pairs.rt": "another text\n"})
-        self.assertIn("\nanother text\n", check.printed)
-        self.assertIn("    a + STEP\n", check.printed)
-        self.assertNotIn("impl Pair", check.printed)
-        self.assertEqual([*check.edited], ["src/pairs.rt"])
-        with open(f"{self.folder}/src/pairs.rt", encoding="utf-8") as it:
-            self.assertEqual(it.read(), CRATE_SOURCES["src/pairs.rt"])
+        self.assertIn("\nanother text\n", check.output)
+        self.assertIn("    a + STEP\n", check.output)
+        self.assertNotIn("impl Pair", check.output)
+        self.assertEqual([*check.edited_paths], ["src/pairs.rt"])
+        with open(f"{self.folder}/src/pairs.rt", encoding="utf-8") as file:
+            self.assertEqual(file.read(), CRATE_SOURCES["src/pairs.rt"])
 
     def test_each_check_begins_with_the_seed(self):
         self.write_file("out/incremental/before", "")
@@ -88,10 +88,10 @@ class CheckerTest(CrateFolderTest):
         self.assertTrue(self.checker.is_seed_unchanged())
 
     def test_libraries_that_are_not_built(self):
-        with mock.patch.object(checker.libraries, "are_built", return_value=False) as asked:
+        with mock.patch.object(checker.libraries, "are_built", return_value=False) as are_built:
             with self.assertRaisesRegex(checker.LibrariesNotBuilt, "the libraries below tiny are not built"):
                 self.checker.check_unchanged()
-        asked.assert_called_once_with(os.path.dirname(self.folder), [], checker.kit_name())
+        are_built.assert_called_once_with(os.path.dirname(self.folder), [], checker.kit_name())
 
     def test_the_status_is_the_provers(self):
         self.checker.check_unchanged()
@@ -106,8 +106,8 @@ class CheckerTest(CrateFolderTest):
 
     def test_a_file_with_a_proof_is_linked_and_others_are_copied(self):
         for name, is_one in (("a.oantt", True), ("a.antt", False), ("index", False)):
-            made = checker.link_or_copy(self.write_file(f"kept/{name}", ""), f"{self.folder}/{name}")
-            self.assertEqual(os.path.samefile(f"{self.folder}/kept/{name}", made or f"{self.folder}/{name}"), is_one)
+            copied = checker.link_or_copy(self.write_file(f"kept/{name}", ""), f"{self.folder}/{name}")
+            self.assertEqual(os.path.samefile(f"{self.folder}/kept/{name}", copied or f"{self.folder}/{name}"), is_one)
 
 
 class CheckerHelpersTest(unittest.TestCase):

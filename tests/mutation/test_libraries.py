@@ -15,16 +15,16 @@ class BuiltLibrariesTest(CrateFolderTest):
     def setUp(self):
         super().setUp()
         self.root = os.path.dirname(self.folder)
-        self.low = self.make_crate("low")
-        self.middle = self.make_crate("middle", self.low)
-        self.crates = [self.low, self.middle]
+        self.low_crate = self.make_crate("low")
+        self.middle_crate = self.make_crate("middle", self.low_crate)
+        self.crates = [self.low_crate, self.middle_crate]
 
     def make_crate(self, name, *deps):
         folder = f"{self.root}/{name}"
         self.write_file(f"../{name}/src/lib.rt", name)
         self.write_file(f"../{name}/out/rlib/{name}.rlib/format", name)
-        of = {"name": name, "folder": folder, "rlib": f"{folder}/out/rlib/{name}.rlib", "of_kit": ["std"]}
-        return types.SimpleNamespace(**of, deps=[*deps], is_built=lambda: False)
+        members = {"name": name, "folder": folder, "rlib": f"{folder}/out/rlib/{name}.rlib", "of_kit": ["std"]}
+        return types.SimpleNamespace(**members, deps=[*deps], is_built=lambda: False)
 
     def build_and_note(self, *words, kit_name="kit 1"):
         return libraries.run_and_note(self.root, self.crates, kit_name, [*words] or [*EXIT_COMMAND, "0"])
@@ -43,13 +43,14 @@ class BuiltLibrariesTest(CrateFolderTest):
         self.assertTrue(self.are_built())
 
     def test_stamps(self):
-        for one, other in ((True, True), (True, False), (False, True)):
-            self.low.is_built, self.middle.is_built = lambda one=one: one, lambda other=other: other
-            self.assertEqual(self.are_built(), one and other)
+        for has_low_stamp, has_middle_stamp in ((True, True), (True, False), (False, True)):
+            self.low_crate.is_built = lambda has_low_stamp=has_low_stamp: has_low_stamp
+            self.middle_crate.is_built = lambda has_middle_stamp=has_middle_stamp: has_middle_stamp
+            self.assertEqual(self.are_built(), has_low_stamp and has_middle_stamp)
 
     def test_a_stamp_and_a_note_are_not_taken_together(self):
         self.build_and_note()
-        self.low.is_built = lambda: True
+        self.low_crate.is_built = lambda: True
         self.write_file("../low/out/rlib/low.rlib/format", "built again")
         self.assertFalse(self.are_built())
 
@@ -69,7 +70,7 @@ class BuiltLibrariesTest(CrateFolderTest):
             self.assertFalse(self.are_built(), path)
 
     def test_a_file_with_another_name(self):
-        for folder in (f"{self.low.folder}/src", self.low.rlib):
+        for folder in (f"{self.low_crate.folder}/src", self.low_crate.rlib):
             self.build_and_note()
             os.rename(f"{folder}/{os.listdir(folder)[0]}", f"{folder}/renamed")
             self.assertFalse(self.are_built(), folder)
@@ -77,25 +78,25 @@ class BuiltLibrariesTest(CrateFolderTest):
     def test_another_kit_or_other_dependencies(self):
         self.build_and_note()
         self.assertFalse(self.are_built(kit_name="kit 2"))
-        self.low.of_kit = ["std", "hex"]
+        self.low_crate.of_kit = ["std", "hex"]
         self.assertFalse(self.are_built())
-        self.low.of_kit, self.middle.deps = ["std"], []
+        self.low_crate.of_kit, self.middle_crate.deps = ["std"], []
         self.assertFalse(self.are_built())
 
     def test_a_library_that_is_not_there(self):
-        os.rename(self.low.rlib, f"{self.low.rlib}.none")
+        os.rename(self.low_crate.rlib, f"{self.low_crate.rlib}.none")
         self.build_and_note()
         self.assertFalse(self.are_built())
 
     def test_times_do_not_count(self):
         self.build_and_note()
-        for at, (source, library) in enumerate(((30, 20), (20, 30))):
-            os.utime(f"{self.low.folder}/src/lib.rt", (source, source))
-            os.utime(self.low.rlib, (library, library))
-            os.utime(f"{self.low.rlib}/format", (library, library))
-            self.assertTrue(self.are_built(), at)
+        for index, (source, library) in enumerate(((30, 20), (20, 30))):
+            os.utime(f"{self.low_crate.folder}/src/lib.rt", (source, source))
+            os.utime(self.low_crate.rlib, (library, library))
+            os.utime(f"{self.low_crate.rlib}/format", (library, library))
+            self.assertTrue(self.are_built(), index)
         self.write_file("../low/src/lib.rt", "another")
-        os.utime(f"{self.low.folder}/src/lib.rt", (1, 1))
+        os.utime(f"{self.low_crate.folder}/src/lib.rt", (1, 1))
         self.assertFalse(self.are_built())
 
     def test_a_command_that_fails_leaves_no_note(self):
@@ -110,7 +111,7 @@ class BuiltLibrariesTest(CrateFolderTest):
         self.assertEqual(self.build_and_note(sys.executable, "-c", is_gone), 0)
 
     def test_a_source_that_changes_while_the_command_runs(self):
-        self.assertEqual(self.build_and_note("sh", "-c", f"echo >{self.low.folder}/src/lib.rt"), 0)
+        self.assertEqual(self.build_and_note("sh", "-c", f"echo >{self.low_crate.folder}/src/lib.rt"), 0)
         self.assertFalse(self.are_built())
         self.write_file("../low/src/lib.rt", "low")
         self.assertFalse(self.are_built())

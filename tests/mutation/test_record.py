@@ -13,8 +13,8 @@ from mutation.verdicts import Outcome
 
 
 def fake_crate(folder, name, *deps, of_kit=("std",)):
-    below = [it for dep in deps for it in [*dep.below(), dep]]
-    return types.SimpleNamespace(name=name, folder=folder, deps=list(deps), of_kit=of_kit, below=lambda: below)
+    crates_below = [crate_below for dep in deps for crate_below in [*dep.below(), dep]]
+    return types.SimpleNamespace(name=name, folder=folder, deps=list(deps), of_kit=of_kit, below=lambda: crates_below)
 
 
 CRATE_SOURCE = """\
@@ -44,39 +44,40 @@ class DigestTest(CrateFolderTest):
         self.write_file("../HANDLES", "Handles allowed: none.\n")
         self.write_file("../low/src/lib.rt", CRATE_SOURCE)
         self.write_file("src/lib.rt", CRATE_SOURCE)
-        self.low = fake_crate(f"{self.root}/low", "low")
-        self.tiny = fake_crate(self.folder, "tiny", self.low)
+        self.low_crate = fake_crate(f"{self.root}/low", "low")
+        self.tiny = fake_crate(self.folder, "tiny", self.low_crate)
 
-    def mutant_digests(self, text="old: a\nnew: b\n", logic="a1", of=None, function="once"):
+    def mutant_digests(self, text="old: a\nnew: b\n", logic="a1", crate=None, function="once"):
         """The digests of a mutant of this function, or of one that changes more than a body if it is None."""
-        with open(f"{self.folder}/src/lib.rt", encoding="utf-8") as it:
-            found = {it.name: it for it in split_functions("src/lib.rt", it.read())[0]}
-        reads = record.CheckInputs(of or self.tiny, self.root, logic)
-        return reads.digests(Mutant("a.edit", text, (), found.get(function), ""))
+        with open(f"{self.folder}/src/lib.rt", encoding="utf-8") as file:
+            functions_by_name = {file.name: file for file in split_functions("src/lib.rt", file.read())[0]}
+        check_inputs = record.CheckInputs(crate or self.tiny, self.root, logic)
+        return check_inputs.digests(Mutant("a.edit", text, (), functions_by_name.get(function), ""))
 
     def digests_after_changes(self, *changes):
         """For each of these changes of a file, made by itself, whether each digest stays the same."""
-        before, same = self.mutant_digests(), []
+        digests_before, unchanged_digests = self.mutant_digests(), []
         for path, text in changes:
-            old = self.read_file(path)
+            old_text = self.read_file(path)
             self.write_file(path, text)
-            now = self.mutant_digests()
-            same.append(tuple(one == other for one, other in zip(before, now)))
-            self.write_file(path, old) if old is not None else os.remove(f"{self.folder}/{path}")
-        self.assertEqual(self.mutant_digests(), before)
-        return same
+            digests_now = self.mutant_digests()
+            unchanged_digests.append(tuple(digest_before == digest_now
+                                           for digest_before, digest_now in zip(digests_before, digests_now)))
+            self.write_file(path, old_text) if old_text is not None else os.remove(f"{self.folder}/{path}")
+        self.assertEqual(self.mutant_digests(), digests_before)
+        return unchanged_digests
 
     def read_file(self, path):
         if not os.path.exists(f"{self.folder}/{path}"):
             return None
-        with open(f"{self.folder}/{path}", encoding="utf-8") as it:
-            return it.read()
+        with open(f"{self.folder}/{path}", encoding="utf-8") as file:
+            return file.read()
 
 
 class DigestDependenciesTest(DigestTest):
     def test_their_form(self):
-        for it in self.mutant_digests():
-            self.assertRegex(it, "^[0-9a-f]{16}$")
+        for digest in self.mutant_digests():
+            self.assertRegex(digest, "^[0-9a-f]{16}$")
         self.assertNotEqual(*self.mutant_digests())
 
     def test_what_no_check_reads(self):
@@ -172,60 +173,63 @@ class DigestDependenciesTest(DigestTest):
         self.assertEqual(self.digests_after_changes(("src/lib.rt", SOURCE_WITH_OTHER_BODY)), [(False, False)])
 
     def test_another_logic_graph_or_mutant(self):
-        seen = [
+        digests = [
             self.mutant_digests(), self.mutant_digests(text="old: a\nnew: c\n"), self.mutant_digests(logic="b2")
         ]
-        seen.append(self.mutant_digests(of=fake_crate(self.folder, "tiny")))
-        seen.append(self.mutant_digests(of=fake_crate(self.folder, "tiny", self.low, of_kit=("std", "hex"))))
-        seen.append(self.mutant_digests(of=fake_crate(self.folder, "little", self.low)))
-        seen.append(self.mutant_digests(of=fake_crate(self.folder, "tinier", self.low)))
-        middle = fake_crate(f"{self.root}/middle", "middle", self.low)
-        for deps in ([middle], [self.low, middle]):
-            of = fake_crate(self.folder, "tiny", *deps)
-            of.below = lambda: [self.low, middle]
-            seen.append(self.mutant_digests(of=of))
-        self.assertEqual(len({it.own for it in seen}), len(seen))
-        self.assertEqual(len({it.whole for it in seen}), len(seen))
+        digests.append(self.mutant_digests(crate=fake_crate(self.folder, "tiny")))
+        digests.append(self.mutant_digests(crate=fake_crate(self.folder, "tiny", self.low_crate,
+                                                            of_kit=("std", "hex"))))
+        digests.append(self.mutant_digests(crate=fake_crate(self.folder, "little", self.low_crate)))
+        digests.append(self.mutant_digests(crate=fake_crate(self.folder, "tinier", self.low_crate)))
+        middle = fake_crate(f"{self.root}/middle", "middle", self.low_crate)
+        for deps in ([middle], [self.low_crate, middle]):
+            other_crate = fake_crate(self.folder, "tiny", *deps)
+            other_crate.below = lambda: [self.low_crate, middle]
+            digests.append(self.mutant_digests(crate=other_crate))
+        self.assertEqual(len({mutant_digest.function_digest for mutant_digest in digests}), len(digests))
+        self.assertEqual(len({mutant_digest.crate_digest for mutant_digest in digests}), len(digests))
 
     def test_a_mutant_of_more_than_a_body_depends_on_all(self):
-        before = self.mutant_digests(function=None)
-        self.assertEqual(before.own, before.whole)
+        digests_before = self.mutant_digests(function=None)
+        self.assertEqual(digests_before.function_digest, digests_before.crate_digest)
         self.write_file("src/lib.rt", SOURCE_WITH_OTHER_BODY)
-        self.assertNotEqual(self.mutant_digests(function=None).own, before.own)
+        self.assertNotEqual(self.mutant_digests(function=None).function_digest, digests_before.function_digest)
 
     def test_the_order_of_crates_does_not_matter(self):
-        lowest, found = fake_crate(f"{self.root}/lowest", "lowest"), set()
-        for below, of_kit in (([self.low, lowest], ("std", "hex")), ([lowest, self.low], ("hex", "std"))):
-            found.add(self.mutant_digests(of=fake_crate(self.folder, "tiny", *below, of_kit=of_kit)))
-        self.assertEqual(len(found), 1)
+        lowest, digests = fake_crate(f"{self.root}/lowest", "lowest"), set()
+        for crates_below, of_kit in (([self.low_crate, lowest], ("std", "hex")),
+                                     ([lowest, self.low_crate], ("hex", "std"))):
+            digests.add(self.mutant_digests(crate=fake_crate(self.folder, "tiny", *crates_below, of_kit=of_kit)))
+        self.assertEqual(len(digests), 1)
 
     def test_the_order_of_files_does_not_matter(self):
-        for found in ([("b", [], ["d", "c"]), ("a", [], ["e"])], [("a", [], ["e"]), ("b", [], ["c", "d"])]):
-            with mock.patch("os.walk", lambda _, found=found: found):
+        for walked_folders in ([("b", [], ["d", "c"]), ("a", [], ["e"])], [("a", [], ["e"]), ("b", [], ["c", "d"])]):
+            with mock.patch("os.walk", lambda _, walked_folders=walked_folders: walked_folders):
                 self.assertEqual(record.files_below(""), ["a/e", "b/c", "b/d"])
 
     def test_the_name_of_a_file(self):
         self.write_file("specs/a.antt", "a")
-        before = self.mutant_digests()
+        digests_before = self.mutant_digests()
         os.rename(f"{self.folder}/specs/a.antt", f"{self.folder}/specs/b.antt")
-        self.assertNotEqual(self.mutant_digests().own, before.own)
-        self.assertNotEqual(self.mutant_digests().whole, before.whole)
+        self.assertNotEqual(self.mutant_digests().function_digest, digests_before.function_digest)
+        self.assertNotEqual(self.mutant_digests().crate_digest, digests_before.crate_digest)
 
     def test_a_body_that_another_function_of_its_name_has(self):
-        for one, two in (
+        for first_head, second_head in (
             ("impl One for Pair", "impl Two for Pair"),
             ("impl Pair<u8>", "impl Pair<u16>"),
             ("impl One for Pair", "impl One for Three"),
         ):
-            found = []
+            digests = []
             for bodies in (("a", "b"), ("b", "a")):
-                methods = (f"    fn once(&self) {{\n        {it}\n    }}\n" for it in bodies)
-                text = "".join(f"{head} {{\n{it}}}\n" for head, it in zip((one, two), methods))
+                methods = (f"    fn once(&self) {{\n        {body}\n    }}\n" for body in bodies)
+                text = "".join(f"{head} {{\n{body}}}\n" for head, body in zip((first_head, second_head), methods))
                 self.write_file("src/lib.rt", text)
-                changed = split_functions("src/lib.rt", text)[0][bodies.index("a")]
-                reads = record.CheckInputs(self.tiny, self.root, "kit 1")
-                found.append(reads.digests(Mutant("a.edit", "old: a\n", (), changed, "")).own)
-            self.assertNotEqual(*found)
+                changed_function = split_functions("src/lib.rt", text)[0][bodies.index("a")]
+                check_inputs = record.CheckInputs(self.tiny, self.root, "kit 1")
+                digests.append(check_inputs.digests(Mutant("a.edit", "old: a\n", (), changed_function,
+                                                           "")).function_digest)
+            self.assertNotEqual(*digests)
 
     def test_a_line_of_a_text_that_looks_like_a_comment(self):
         for start in ('"a', """(b'"', "a""", '("\\"", "a'):
@@ -243,11 +247,11 @@ class DigestDependenciesTest(DigestTest):
     def test_bytes_do_not_move_between_files(self):
         self.write_file("specs/a.antt", "ab")
         self.write_file("specs/b.antt", "c")
-        before = self.mutant_digests()
+        digests_before = self.mutant_digests()
         self.write_file("specs/a.antt", "a")
         self.write_file("specs/b.antt", "bc")
-        self.assertNotEqual(self.mutant_digests().own, before.own)
-        self.assertNotEqual(self.mutant_digests().whole, before.whole)
+        self.assertNotEqual(self.mutant_digests().function_digest, digests_before.function_digest)
+        self.assertNotEqual(self.mutant_digests().crate_digest, digests_before.crate_digest)
 
     def test_a_sum_of_several_texts_depends_on_where_each_ends(self):
         self.assertNotEqual(record.digest_of(b"ab", b"c"), record.digest_of(b"a", b"bc"))
@@ -255,37 +259,40 @@ class DigestDependenciesTest(DigestTest):
 
 
 class RecordFilesTest(CrateFolderTest):
-    def mutant_digests(self, **sums):
-        return {name: record.MutantDigests(sum, sum.upper()) for name, sum in sums.items()}
+    def mutant_digests(self, **digest_by_name):
+        return {name: record.MutantDigests(digest, digest.upper()) for name, digest in digest_by_name.items()}
 
     def write_record(self, digests, **results):
-        found = {name: TryResult(*it) for name, it in results.items()}
-        record.write_record(self.folder, "tiny", digests, found)
-        with open(f"{self.folder}/tests/mutant-records/tiny", encoding="utf-8") as it:
-            return it.read()
+        results_by_name = {name: TryResult(*result_members) for name, result_members in results.items()}
+        record.write_record(self.folder, "tiny", digests, results_by_name)
+        with open(f"{self.folder}/tests/mutant-records/tiny", encoding="utf-8") as result_members:
+            return result_members.read()
 
     def test_refusals_with_their_function(self):
         digests = self.mutant_digests(b="bbbb", a="aaaa", c="cccc")
-        own, alone = (Outcome.OWN, "batch", "tiny::once"), (Outcome.ALONE, "alone", "tiny::once, tiny::twice")
-        limit = (Outcome.LIMIT, "alone", "no")
-        text = self.write_record(digests, b=own, a=alone, c=limit)
+        own_refusal = (Outcome.REFUSED_AT_OWN_FUNCTION, "batch", "tiny::once")
+        refusal_alone = (Outcome.REFUSED_ALONE, "alone", "tiny::once, tiny::twice")
+        refusal_by_limit = (Outcome.REFUSED_BY_LIMIT, "alone", "no")
+        text = self.write_record(digests, b=own_refusal, a=refusal_alone, c=refusal_by_limit)
         self.assertEqual(text, "AAAA a -\nbbbb b tiny::once\nCCCC c -\n")
         self.assertEqual({*record.valid_records(self.folder, "tiny", digests)}, {*"abc"})
 
     def test_no_other_outcome_is_recorded(self):
-        for it in (Outcome.MISSED, Outcome.UNUSABLE, Outcome.LOST, Outcome.UNKNOWN):
-            self.assertEqual(self.write_record(self.mutant_digests(a="aaaa"), a=(it, "alone", "")), "")
+        for outcome in (Outcome.NOT_REFUSED, Outcome.UNUSABLE, Outcome.NOT_REPORTED, Outcome.NO_RESULT):
+            self.assertEqual(self.write_record(self.mutant_digests(a="aaaa"), a=(outcome, "alone", "")), "")
 
     def test_earlier_refusals_stay_while_their_digest_does(self):
-        own = (Outcome.OWN, "batch", "tiny::once")
-        self.write_record(self.mutant_digests(a="aaaa", b="bbbb", c="cccc"), a=own, b=own, c=own)
-        text = self.write_record(self.mutant_digests(a="aaaa", b="dddd", c="cccc"), c=(Outcome.MISSED, "alone", ""))
+        own_refusal = (Outcome.REFUSED_AT_OWN_FUNCTION, "batch", "tiny::once")
+        self.write_record(self.mutant_digests(a="aaaa", b="bbbb", c="cccc"), a=own_refusal, b=own_refusal,
+                          c=own_refusal)
+        text = self.write_record(self.mutant_digests(a="aaaa", b="dddd", c="cccc"),
+                                 c=(Outcome.NOT_REFUSED, "alone", ""))
         self.assertEqual(text, "aaaa a tiny::once\n")
 
     def test_lines_that_hold(self):
         digests = self.mutant_digests(a="aaaa", b="bbbb", c="cccc", d="dddd", e="eeee", f="ffff")
         lines = ["aaaa a f", "BBBB b -", "CCCC c f", "dddd d -", "eeee e", "ffff f ", "gggg g f", "aaaa b f", ""]
-        self.write_file("tests/mutant-records/tiny", "".join(f"{it}\n" for it in lines))
+        self.write_file("tests/mutant-records/tiny", "".join(f"{outcome}\n" for outcome in lines))
         self.assertEqual(record.valid_records(self.folder, "tiny", digests), {"a": "aaaa a f", "b": "BBBB b -"})
 
     def test_no_record(self):
@@ -302,13 +309,14 @@ class SampledMutantsTest(unittest.TestCase):
         self.assertEqual(record.sample_for_turn(self.NAMES, 4, 4), ("a", ["1", "2"]))
 
     def test_each_mutant_is_in_one_sample_of_a_round(self):
-        samples = [record.sample_for_turn(self.NAMES, 4, turn) for turn in range(4)]
-        found = [(crate, it) for crate, names in samples for it in names]
-        self.assertEqual(sorted(found), sorted((crate, it) for crate, names in self.NAMES.items() for it in names))
+        samples = [record.sample_for_turn(self.NAMES, 4, commit_number) for commit_number in range(4)]
+        sampled_mutants = [(crate, mutant_name) for crate, names in samples for mutant_name in names]
+        self.assertEqual(sorted(sampled_mutants),
+                         sorted((crate, mutant_name) for crate, names in self.NAMES.items() for mutant_name in names))
 
     def test_a_round_has_as_many_samples_as_there_are_lists(self):
-        found = [record.sample_for_turn(self.NAMES, 2, turn)[1] for turn in range(6)]
-        self.assertEqual(["".join(it) for it in found], ["12", "12", "34", "56", "78", "9"])
+        samples = [record.sample_for_turn(self.NAMES, 2, commit_number)[1] for commit_number in range(6)]
+        self.assertEqual(["".join(names) for names in samples], ["12", "12", "34", "56", "78", "9"])
 
     def test_nothing_recorded(self):
         self.assertEqual(record.sample_for_turn({"a": []}, 4, 7), ("", []))

@@ -65,7 +65,7 @@ class MutantRunTest(CrateFolderTest):
         super().setUp()
         self.root = os.path.dirname(self.folder)
         self.write_file("../HANDLES", "Handles allowed: none.\n")
-        of = {
+        members = {
             "name": "tiny",
             "folder": self.folder,
             "deps": [],
@@ -73,32 +73,33 @@ class MutantRunTest(CrateFolderTest):
             "below": lambda: [],
             "need": lambda: 1,
         }
-        self.crate = types.SimpleNamespace(**of)
+        self.crate = types.SimpleNamespace(**members)
 
-    def add_mutant(self, name, old, new, path="src/lib.rt", folder="mutants"):
-        self.write_file(f"{folder}/{name}.edit", mutant_text(path, (old, new)))
+    def add_mutant(self, name, old_text, new_text, path="src/lib.rt", folder="mutants"):
+        self.write_file(f"{folder}/{name}.edit", mutant_text(path, (old_text, new_text)))
 
-    def make_run(self, made=FakeRunChecker):
-        return MutantRun(self.root, [self.crate], 2, made)
+    def make_run(self, make_checker=FakeRunChecker):
+        return MutantRun(self.root, [self.crate], 2, make_checker)
 
     def valid_records(self, run):
         return record.valid_records(self.root, "tiny", run.digests["tiny"])
 
     def run_tries(self, run, chosen):
-        printed = io.StringIO()
-        with contextlib.redirect_stdout(printed):
+        output = io.StringIO()
+        with contextlib.redirect_stdout(output):
             run.try_all(chosen)
         self.assertEqual(FakeRunChecker.opened, 0)
-        return printed.getvalue()
+        return output.getvalue()
 
     def test_all_mutants(self):
         self.add_mutant("one", "    a + STEP", "    WRONG")
         self.add_mutant("pair", "self.first", "WRONG", "src/pairs.rt")
         self.add_mutant("same", "    once(b)", "    once(b + 0)")
         run = self.make_run()
-        printed = self.run_tries(run, run.mutants)
-        want = "tiny: 1 NOT REFUSED (alone), 2 refused at its own function (batch); 2 checks, 3 processor seconds\n"
-        self.assertEqual(printed, want)
+        output = self.run_tries(run, run.mutants)
+        expected_output = ("tiny: 1 NOT REFUSED (alone), 2 refused at its own function (batch); 2 checks, "
+                           "3 processor seconds\n")
+        self.assertEqual(output, expected_output)
         self.assertEqual(
             [*run.result_lines()],
             [
@@ -110,8 +111,8 @@ class MutantRunTest(CrateFolderTest):
         self.assertEqual((run.untried_count, run.faults), (0, []))
 
     def test_only_new_mutants_and_a_sample(self):
-        for at in range(SAMPLE_SIZE + 3):
-            self.add_mutant(f"one{at:02}", "    a + STEP", f"    WRONG {at}")
+        for index in range(SAMPLE_SIZE + 3):
+            self.add_mutant(f"one{index:02}", "    a + STEP", f"    WRONG {index}")
         run = self.make_run()
         self.assertEqual(len(run.new_and_sample()["tiny"]), SAMPLE_SIZE + 3)
         self.run_tries(run, run.mutants)
@@ -119,8 +120,9 @@ class MutantRunTest(CrateFolderTest):
         self.add_mutant("new", "    a + STEP", "    WRONG at last")
         self.add_mutant("one00", "    a + STEP", "    WRONG again")
         run = self.make_run()
-        chosen = [it.name for it in run.new_and_sample()["tiny"]]
-        self.assertEqual(chosen, ["new.edit", "one00.edit", *(f"one{at:02}.edit" for at in range(1, SAMPLE_SIZE + 1))])
+        chosen = [mutant.name for mutant in run.new_and_sample()["tiny"]]
+        self.assertEqual(chosen,
+                         ["new.edit", "one00.edit", *(f"one{index:02}.edit" for index in range(1, SAMPLE_SIZE + 1))])
         self.run_tries(run, run.new_and_sample())
         self.assertEqual(run.untried_count, 2)
 
@@ -140,7 +142,7 @@ class MutantRunTest(CrateFolderTest):
     def test_no_more_checks_at_a_time_than_lanes(self):
         self.add_mutant("one", "    a + STEP", "    WRONG")
         self.add_mutant("const", "STEP: u64 = 1", "STEP: u64 = WRONG")
-        crates = [types.SimpleNamespace(**{**vars(self.crate), "name": f"tiny{at}"}) for at in range(5)]
+        crates = [types.SimpleNamespace(**{**vars(self.crate), "name": f"tiny{index}"}) for index in range(5)]
         for lanes in (2, 3):
             CountingChecker.peak = 0
             run = MutantRun(self.root, crates, lanes, CountingChecker)
@@ -148,8 +150,9 @@ class MutantRunTest(CrateFolderTest):
             self.assertEqual(CountingChecker.peak, lanes)
 
     def two_copies_of_crate(self):
-        needs = {"tiny1": lambda: 1, "tiny2": lambda: 2}
-        return [types.SimpleNamespace(**{**vars(self.crate), "name": name, "need": it}) for name, it in needs.items()]
+        need_by_name = {"tiny1": lambda: 1, "tiny2": lambda: 2}
+        return [types.SimpleNamespace(**{**vars(self.crate), "name": name, "need": need})
+                for name, need in need_by_name.items()]
 
     def test_the_crate_that_costs_more_begins_first(self):
         self.add_mutant("one", "    a + STEP", "    WRONG")
@@ -159,11 +162,12 @@ class MutantRunTest(CrateFolderTest):
     def test_a_sample_is_of_its_crate_if_another_has_the_same_mutant(self):
         self.add_mutant("one", "    a + STEP", "    WRONG")
         run = MutantRun(self.root, self.two_copies_of_crate(), 2, FakeRunChecker)
-        for name, found in run.digests.items():
-            self.write_file(f"../tests/mutant-records/{name}", f"{found['one.edit'].own} one.edit {name}::once\n")
+        for name, digests in run.digests.items():
+            self.write_file(f"../tests/mutant-records/{name}",
+                            f"{digests['one.edit'].function_digest} one.edit {name}::once\n")
         with mock.patch("mutation.record.sample_for_turn", lambda names, *_: ("tiny1", names["tiny1"])):
             chosen = run.new_and_sample()
-        self.assertEqual({name: len(it) for name, it in chosen.items()}, {"tiny1": 1, "tiny2": 0})
+        self.assertEqual({name: len(mutants) for name, mutants in chosen.items()}, {"tiny1": 1, "tiny2": 0})
 
     def test_a_crate_without_mutants_has_no_record(self):
         run = self.make_run()
@@ -173,13 +177,13 @@ class MutantRunTest(CrateFolderTest):
 
     def test_a_kit_with_another_logic_has_other_digests(self):
         self.add_mutant("one", "    a + STEP", "    WRONG")
-        found = []
+        digests = []
         for name in ("kit-1 logic a1\n", "kit-2 logic a1\n", "kit-2 logic b2\n", "kit-1\n", "kit-2\n"):
             self.write_file("../kit/KIT-ID", name)
             with mock.patch.object(checker, "KIT", f"{self.root}/kit"):
-                found.append(self.make_run().digests["tiny"]["one.edit"].own)
-        self.assertEqual(found[0], found[1])
-        self.assertEqual(len(set(found[1:])), 4)
+                digests.append(self.make_run().digests["tiny"]["one.edit"].function_digest)
+        self.assertEqual(digests[0], digests[1])
+        self.assertEqual(len(set(digests[1:])), 4)
 
     def test_a_crate_whose_libraries_are_not_built(self):
         self.add_mutant("one", "    a + STEP", "    WRONG")
@@ -222,7 +226,8 @@ class MutantRunTest(CrateFolderTest):
         self.add_mutant("one", "    a + STEP", "    WRONG")
         self.add_mutant("two", "    once(once(a))", "    WRONG")
         run = self.make_run()
-        with mock.patch("mutation.tries.CrateTries.try_alone", lambda tries, it: (run.mutants["tiny"][0], None)):
+        with mock.patch("mutation.tries.CrateTries.try_alone", lambda tries, lane_mutants: (run.mutants["tiny"][0],
+                                                                                            None)):
             with contextlib.suppress(AttributeError):
                 self.run_tries(run, run.mutants)
         self.assertEqual(run.faults, ["tiny: two.edit was not tried"])
@@ -237,7 +242,8 @@ class MutantRunTest(CrateFolderTest):
     def test_a_recorded_mutant_that_cannot_be_applied_is_tried(self):
         self.add_mutant("one", "    a + STAP", "    WRONG")
         run = self.make_run()
-        self.write_file("../tests/mutant-records/tiny", f"{run.digests['tiny']['one.edit'].own} one.edit tiny::once\n")
+        self.write_file("../tests/mutant-records/tiny",
+                        f"{run.digests['tiny']['one.edit'].function_digest} one.edit tiny::once\n")
         with mock.patch("mutation.record.sample_for_turn", lambda *_: ("", [])):
             self.run_tries(run, run.new_and_sample())
         self.assertEqual([is_refused for is_refused, _ in run.result_lines()], [False])
@@ -260,8 +266,8 @@ class MutantRunTest(CrateFolderTest):
         for path in ("two.edti", ".three.edit", "more/four.edit"):
             self.write_file(f"mutants/{path}", "")
         names = (".three.edit", "more/four.edit", "two.edti")
-        want = [f"tiny/mutants/{it} has another name than mutants have" for it in names]
-        self.assertEqual(count_faults(self.root, [self.crate]), want)
+        expected_output = [f"tiny/mutants/{file_name} has another name than mutants have" for file_name in names]
+        self.assertEqual(count_faults(self.root, [self.crate]), expected_output)
 
 
 if __name__ == "__main__":

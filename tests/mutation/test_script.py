@@ -23,92 +23,92 @@ class FakeMutantRun:
 
     untried_count, mutants = 5, "all"
 
-    def __init__(self, found, faults, done):
-        self.found, self.faults, self.done = found, faults, done
+    def __init__(self, result_lines, faults, actions):
+        self.lines_of_results, self.faults, self.actions = result_lines, faults, actions
 
     def new_and_sample(self):
         return "new and a sample"
 
     def try_all(self, chosen):
-        self.done.append(f"tried {chosen}")
+        self.actions.append(f"tried {chosen}")
 
     def write_records(self):
-        self.done.append("recorded")
+        self.actions.append("recorded")
 
     def result_lines(self):
-        yield from self.found
+        yield from self.lines_of_results
 
 
 class MutantsScriptTest(unittest.TestCase):
-    def run_script(self, *words, found=((True, "low/a: refused"),), faults=(), count_faults=(), script=None):
+    def run_script(self, *words, result_lines=((True, "low/a: refused"),), faults=(), count_faults=(), script=None):
         """The status of a run with these words, what it printed, and what it did."""
-        script, done, printed = script or load_script(), [], io.StringIO()
-        crates = [types.SimpleNamespace(name=it) for it in ("low", "high")]
+        script, actions, output = script or load_script(), [], io.StringIO()
+        crates = [types.SimpleNamespace(name=crate) for crate in ("low", "high")]
 
-        def made(_root, chosen, lane_count):
-            done.append(f"{' '.join(it.name for it in chosen)} in {lane_count}")
-            return FakeMutantRun(found, [*faults], done)
+        def make_run(_root, chosen, lane_count):
+            actions.append(f"{' '.join(crate.name for crate in chosen)} in {lane_count}")
+            return FakeMutantRun(result_lines, [*faults], actions)
 
         with (
             mock.patch.object(script.checker, "crates", lambda _: crates),
             mock.patch.object(script.checker, "lane_count", lambda: 3),
-            mock.patch.object(script, "MutantRun", made),
+            mock.patch.object(script, "MutantRun", make_run),
             mock.patch.object(script, "count_faults", lambda *_: [*count_faults]),
-            contextlib.redirect_stdout(printed),
-            contextlib.redirect_stderr(printed),
+            contextlib.redirect_stdout(output),
+            contextlib.redirect_stderr(output),
         ):
             try:
                 status = script.main([*words])
-            except SystemExit as it:
-                status = it.code
-        return status, printed.getvalue(), done
+            except SystemExit as crate:
+                status = crate.code
+        return status, output.getvalue(), actions
 
     def test_all_mutants_of_all_crates(self):
-        want = (0, "mutants: 1 refused in this run, 5 not tried, 0 faults\n", ["low high in 3", "tried all"])
-        self.assertEqual(self.run_script(), want)
+        expected_run = (0, "mutants: 1 refused in this run, 5 not tried, 0 faults\n", ["low high in 3", "tried all"])
+        self.assertEqual(self.run_script(), expected_run)
 
     def test_new_mutants(self):
-        status, printed, done = self.run_script("--new")
-        self.assertEqual((status, done), (0, ["low high in 3", "tried new and a sample"]))
-        self.assertTrue(printed.endswith("1 refused in this run, 5 recorded, 0 faults\n"), printed)
+        status, output, actions = self.run_script("--new")
+        self.assertEqual((status, actions), (0, ["low high in 3", "tried new and a sample"]))
+        self.assertTrue(output.endswith("1 refused in this run, 5 recorded, 0 faults\n"), output)
 
     def test_a_record_is_written_on_request(self):
         self.assertEqual(self.run_script("--record")[2], ["low high in 3", "tried all", "recorded"])
 
     def test_ci_only_runs_rt_and_notes_the_libraries(self):
         script = load_script()
-        noted = []
+        noted_calls = []
 
         def run_and_note(_root, crates, kit_name, words):
-            noted.append(([it.name for it in crates], kit_name, words[1:]))
+            noted_calls.append(([crate.name for crate in crates], kit_name, words[1:]))
             return 3
 
         with mock.patch.object(script.libraries, "run_and_note", run_and_note):
             self.assertEqual(self.run_script("--ci", script=script), (3, "", []))
-        self.assertEqual(noted, [(["low", "high"], script.checker.kit_name(), ["ci"])])
+        self.assertEqual(noted_calls, [(["low", "high"], script.checker.kit_name(), ["ci"])])
 
     def test_crates_by_name(self):
         self.assertEqual(self.run_script("high")[2], ["high in 3", "tried all"])
-        status, printed, done = self.run_script("high", "none")
-        self.assertEqual((status, done), (2, []))
-        self.assertIn("no crate has the name none", printed)
+        status, output, actions = self.run_script("high", "none")
+        self.assertEqual((status, actions), (2, []))
+        self.assertIn("no crate has the name none", output)
 
     def test_a_line_for_each_mutant(self):
-        found = ((True, "low/a: refused"), (False, "low/b: NOT REFUSED"))
-        last = "mutants: low/b: NOT REFUSED\nmutants: 1 refused in this run, 5 not tried, 1 faults\n"
-        self.assertEqual(self.run_script("--list", found=found)[:2], (1, f"low/a: refused\n{last}"))
-        self.assertEqual(self.run_script(found=found)[:2], (1, last))
+        result_lines = ((True, "low/a: refused"), (False, "low/b: NOT REFUSED"))
+        last_lines = "mutants: low/b: NOT REFUSED\nmutants: 1 refused in this run, 5 not tried, 1 faults\n"
+        self.assertEqual(self.run_script("--list", result_lines=result_lines)[:2], (1, f"low/a: refused\n{last_lines}"))
+        self.assertEqual(self.run_script(result_lines=result_lines)[:2], (1, last_lines))
 
     def test_each_fault_fails_the_run(self):
-        for given in (
-            {"found": ((False, "a fault"),)},
+        for run_options in (
+            {"result_lines": ((False, "a fault"),)},
             {"faults": ["a fault"]},
             {"count_faults": ["a fault"]},
         ):
-            status, printed, _ = self.run_script(**given)
-            self.assertEqual(status, 1, given)
-            self.assertIn("mutants: a fault\n", printed)
-            self.assertIn(" 1 faults\n", printed)
+            status, output, _ = self.run_script(**run_options)
+            self.assertEqual(status, 1, run_options)
+            self.assertIn("mutants: a fault\n", output)
+            self.assertIn(" 1 faults\n", output)
 
 
 if __name__ == "__main__":

@@ -72,52 +72,56 @@ class SplitFunctionsTest(unittest.TestCase):
         return split_functions("src/a.rt", text)[0]
 
     def test_free_functions(self):
-        first, second = self.functions_in(FREE_FUNCTIONS)
-        self.assertEqual((first.name, first.type, first.trait, first.path), ("first", "", (), "src/a.rt"))
-        self.assertEqual(first.head, "pub fn first(a: u64) -> u64 {")
-        self.assertEqual(first.body, "    a + 1\n}")
-        self.assertEqual(second.name, "second")
+        first_function, second_function = self.functions_in(FREE_FUNCTIONS)
+        self.assertEqual((first_function.name, first_function.type, first_function.trait, first_function.path),
+                         ("first", "", (), "src/a.rt"))
+        self.assertEqual(first_function.head, "pub fn first(a: u64) -> u64 {")
+        self.assertEqual(first_function.body, "    a + 1\n}")
+        self.assertEqual(second_function.name, "second")
 
     def test_clauses_belong_to_the_head(self):
-        second = self.functions_in(FREE_FUNCTIONS)[1]
-        self.assertTrue(second.head.endswith("    ensures { result ≡ b - a }\n{"))
-        self.assertTrue(second.body.startswith("    if a < b {"))
-        self.assertTrue(second.body.endswith("    }\n}"))
+        second_function = self.functions_in(FREE_FUNCTIONS)[1]
+        self.assertTrue(second_function.head.endswith("    ensures { result ≡ b - a }\n{"))
+        self.assertTrue(second_function.body.startswith("    if a < b {"))
+        self.assertTrue(second_function.body.endswith("    }\n}"))
 
     def test_a_head_may_end_with_its_bounds(self):
         for bounds in ("where T: Copy {", "where\n    T: Copy,\n{"):
-            (it,) = self.functions_in(f"fn f<T>(\n    a: T,\n) -> T\n{bounds}\n    a\n}}\n")
-            self.assertEqual((it.head.endswith(bounds), it.body), (True, "    a\n}"))
+            (function,) = self.functions_in(f"fn f<T>(\n    a: T,\n) -> T\n{bounds}\n    a\n}}\n")
+            self.assertEqual((function.head.endswith(bounds), function.body), (True, "    a\n}"))
 
     def test_lines_are_those_of_the_file(self):
         for text in (FREE_FUNCTIONS, FUNCTIONS_IN_BLOCKS):
             lines = text.split("\n")
-            for it in self.functions_in(text):
-                self.assertEqual(lines[it.line : it.line + len(it.lines)], it.lines)
+            for function in self.functions_in(text):
+                self.assertEqual(lines[function.line : function.line + len(function.lines)], function.lines)
 
     def test_methods_have_their_type(self):
-        found = {it.name: (it.type, it.trait) for it in self.functions_in(FUNCTIONS_IN_BLOCKS)}
-        self.assertEqual(found["push"], ("Framer", ()))
-        self.assertEqual(found["twice"], ("Source", ()))
-        self.assertEqual(found["last"], ("", ()))
+        type_and_trait_by_name = {function.name: (function.type, function.trait)
+                                  for function in self.functions_in(FUNCTIONS_IN_BLOCKS)}
+        self.assertEqual(type_and_trait_by_name["push"], ("Framer", ()))
+        self.assertEqual(type_and_trait_by_name["twice"], ("Source", ()))
+        self.assertEqual(type_and_trait_by_name["last"], ("", ()))
 
     def test_methods_of_a_trait_have_its_words(self):
-        found = {it.name: (it.type, it.trait) for it in self.functions_in(FUNCTIONS_IN_BLOCKS)}
-        self.assertEqual(found["fmt"], ("Lines", ("Debug", "Debug")))
-        self.assertEqual(found["from"], ("Fault", ("FromError", "FromioError")))
+        type_and_trait_by_name = {function.name: (function.type, function.trait)
+                                  for function in self.functions_in(FUNCTIONS_IN_BLOCKS)}
+        self.assertEqual(type_and_trait_by_name["fmt"], ("Lines", ("Debug", "Debug")))
+        self.assertEqual(type_and_trait_by_name["from"], ("Fault", ("FromError", "FromioError")))
 
     def test_a_head_without_a_body_is_no_function(self):
-        self.assertNotIn("read", [it.name for it in self.functions_in(FUNCTIONS_IN_BLOCKS)])
+        self.assertNotIn("read", [function.name for function in self.functions_in(FUNCTIONS_IN_BLOCKS)])
 
     def test_other_lines_are_kept_without_comments(self):
-        rest = split_functions("src/a.rt", FREE_FUNCTIONS)[1]
-        self.assertEqual(rest, ["use core::fmt;", "const MOST: u64 = 4;", "fn first", "fn second"])
+        other_lines = split_functions("src/a.rt", FREE_FUNCTIONS)[1]
+        self.assertEqual(other_lines, ["use core::fmt;", "const MOST: u64 = 4;", "fn first", "fn second"])
 
     def test_the_key_of_an_edited_function_is_the_same(self):
-        other = FREE_FUNCTIONS.replace("a + 1", "a + 2")
-        keys, other_keys = ([it.key for it in self.functions_in(text)] for text in (FREE_FUNCTIONS, other))
+        other_text = FREE_FUNCTIONS.replace("a + 1", "a + 2")
+        keys, other_keys = ([function.key for function in self.functions_in(text)]
+                            for text in (FREE_FUNCTIONS, other_text))
         self.assertEqual(keys, other_keys)
-        self.assertNotEqual(self.functions_in(FREE_FUNCTIONS)[0].body, self.functions_in(other)[0].body)
+        self.assertNotEqual(self.functions_in(FREE_FUNCTIONS)[0].body, self.functions_in(other_text)[0].body)
 
 
 if __name__ == "__main__":

@@ -3,10 +3,10 @@
 
 
 def crc8_of_each_byte():
-    for check in range(256):
+    for crc in range(256):
         for _ in range(8):
-            check = check << 1 ^ 0x107 if check & 0x80 else check << 1
-        yield check
+            crc = crc << 1 ^ 0x107 if crc & 0x80 else crc << 1
+        yield crc
 
 
 CRC8_TABLE = list(crc8_of_each_byte())
@@ -14,10 +14,10 @@ CRC8_TABLE = list(crc8_of_each_byte())
 
 def crc8(data):
     """CRC-8 with the polynomial x^8 + x^2 + x + 1, from 0."""
-    check = 0
+    crc = 0
     for byte in data:
-        check = CRC8_TABLE[check ^ byte]
-    return check
+        crc = CRC8_TABLE[crc ^ byte]
+    return crc
 
 
 def packet(kind, data, optional=b""):
@@ -65,4 +65,4 @@ def gateway_telegram_packet(rorg, payload, sender, destination=BROADCAST_ID):
 
 def serial_script_lines(stream, size=99):
     """The lines `S ` of a script that bring these bytes, this many at a time. A line takes 99 bytes at most."""
-    return "".join(f"S {stream[k : k + size].hex().upper()}\n" for k in range(0, len(stream), size))
+    return "".join(f"S {stream[start : start + size].hex().upper()}\n" for start in range(0, len(stream), size))

@@ -48,7 +48,7 @@ class Gateway:
     """The lines that the gateway with this base ID must write for each line of a script."""
 
     def __init__(self, base=BASE_ID):
-        self.base, self.devices, self.labels, self.mode, self.held = base, {}, {}, "closed", b""
+        self.base, self.devices, self.labels, self.mode, self.partial_packet = base, {}, {}, "closed", b""
         self.counts = dict.fromkeys(("ignored", "readings", "refused", "responses", "teach"), 0)
 
     def answer(self, text):
@@ -62,17 +62,18 @@ class Gateway:
             return error_line("too_long")
         if not re.fullmatch("S ([0-9A-Fa-f]{2})*", text):
             return self.answer_to_order(text)
-        return "".join(self.answer_to_packet(*whole) for whole in self.complete_packets(bytes.fromhex(text[2:])))
+        return "".join(self.answer_to_packet(*whole_packet)
+                       for whole_packet in self.complete_packets(bytes.fromhex(text[2:])))
 
     def complete_packets(self, stream):
         """The packets that these bytes complete. Bytes that may begin another one are held."""
-        self.held = yield from packets_in_stream(self.held + stream)
+        self.partial_packet = yield from packets_in_stream(self.partial_packet + stream)
 
     def answer_to_order(self, text):
         rows = matching_orders(text)
         if not rows:
             return error_line("syntax")
-        values, does, by = rows[0]
+        values, does, payload_form = rows[0]
         # the ID of all is no sender
         if not all(is_in_range(values) for values, _, _ in rows) or self.base + values.get("OFF", 0) == BROADCAST_ID:
             return error_line("range")
@@ -80,17 +81,17 @@ class Gateway:
         if eep is not None and not is_supported(eep):
             return error_line("unsupported_profile")
         if does == "mode":
-            self.mode = by.replace("EEP", eep or "")
+            self.mode = payload_form.replace("EEP", eep or "")
             return OK_LINE
         if does == "list":
             return self.device_list()
         if does == "status":
             return json_line({**self.counts, "mode": self.mode, "type": "status"})
         if does == "module":
-            return radio_output_line(packet(5, order_payload(by, values))) + OK_LINE
+            return radio_output_line(packet(5, order_payload(payload_form, values))) + OK_LINE
         if does == "all":
             return radio_output_line(
-                gateway_telegram_packet(0xA5, order_payload(by, values), self.base + values["OFF"])
+                gateway_telegram_packet(0xA5, order_payload(payload_form, values), self.base + values["OFF"])
             ) + OK_LINE
         if does == "add":
             if self.has_no_room_for(sender):
@@ -104,11 +105,11 @@ class Gateway:
             return OK_LINE
         if does == "remove":
             return teach_line(sender, *self.forget_device(sender), "deleted")
-        own = self.devices[sender][0]
-        for values, profile, by in rows:
-            if own.startswith(profile):
+        own_eep = self.devices[sender][0]
+        for values, profile, payload_form in rows:
+            if own_eep.startswith(profile):
                 return radio_output_line(
-                    gateway_telegram_packet(0xD2, order_payload(by, values), self.base, sender)
+                    gateway_telegram_packet(0xD2, order_payload(payload_form, values), self.base, sender)
                 ) + OK_LINE
         return error_line("wrong_profile")
 
@@ -125,68 +126,69 @@ class Gateway:
 
     def answer_to_packet(self, kind, data, optional):
         if kind == 1 and data and len(data) - 6 in PAYLOAD_LENGTHS.get(data[0], []):
-            heard = ReceivedTelegram(data, optional, self.base)
-            mode, known = self.mode, self.devices.get(heard.sender)
-            count, answer, taught = self.handle_telegram(heard)
-            why = reasons.telegram_reason(heard, mode, known, taught)
-            members = reasons.explanation_members(heard, why, known, taught)
+            telegram = ReceivedTelegram(data, optional, self.base)
+            mode, known_device = self.mode, self.devices.get(telegram.sender)
+            count, answer, teach_result = self.handle_telegram(telegram)
+            reason = reasons.telegram_reason(telegram, mode, known_device, teach_result)
+            members = reasons.explanation_members(telegram, reason, known_device, teach_result)
         else:
             count, answer = "ignored", ""
             if kind == 2 and data:
                 count, answer = "responses", self.response_line(data)
-            why, members = reasons.packet_reason(kind, data), {"kind": kind, "size": len(data)}
+            reason, members = reasons.packet_reason(kind, data), {"kind": kind, "size": len(data)}
         self.counts[count] += 1
-        assert reasons.COUNTER_BY_REASON[why] == count, f"{data.hex()} is {why}, and is counted otherwise"
+        assert reasons.COUNTER_BY_REASON[reason] == count, f"{data.hex()} is {reason}, and is counted otherwise"
         radio, desk = re.fullmatch(r"(S .*\n)?(.*\n)?", answer).groups("")
-        return radio + EXPLANATION_MARK + json_line({**members, "type": "packet", "why": why}) + desk
+        return radio + EXPLANATION_MARK + json_line({**members, "type": "packet", "why": reason}) + desk
 
     def response_line(self, data):
         name = RETURN_CODES.get(data[0])
         return json_line({"code": data[0], "data": data[1:].hex().upper(), "name": name, "type": "response"})
 
-    def handle_telegram(self, heard):
+    def handle_telegram(self, telegram):
         """The count that is incremented, what is written, and what the teach line has, if there is one."""
-        if heard.sender == BROADCAST_ID or not heard.is_for_gateway():
+        if telegram.sender == BROADCAST_ID or not telegram.is_for_gateway():
             return "ignored", "", None
-        known = self.devices.get(heard.sender)
-        kind, own = telegram_kind(heard.rorg, heard.payload, known is not None)
-        if kind == "data" and known:
-            readings = telegram_readings(known[0], heard.rorg, heard.payload, heard.status)
+        known_device = self.devices.get(telegram.sender)
+        kind, eep_and_maker = telegram_kind(telegram.rorg, telegram.payload, known_device is not None)
+        if kind == "data" and known_device:
+            readings = telegram_readings(known_device[0], telegram.rorg, telegram.payload, telegram.status)
             if readings is None:
                 return "ignored", "", None
-            reading = {"dbm": heard.dbm, "eep": known[0], "id": f"{heard.sender:08X}", "readings": readings}
+            reading = {"dbm": telegram.dbm, "eep": known_device[0], "id": f"{telegram.sender:08X}",
+                       "readings": readings}
             return "readings", json_line({**reading, "type": "reading"}), None
-        taught = self.teach_in_result(kind, own, heard.sender)
-        if taught is None:
+        teach_result = self.teach_in_result(kind, eep_and_maker, telegram.sender)
+        if teach_result is None:
             return "ignored", "", None
-        answer = teach_in_reply_payload(kind, heard.payload, self.mode, taught[2])
+        answer = teach_in_reply_payload(kind, telegram.payload, self.mode, teach_result[2])
         radio = radio_output_line(
-            gateway_telegram_packet(heard.rorg, answer, self.base, heard.sender)
+            gateway_telegram_packet(telegram.rorg, answer, self.base, telegram.sender)
         ) if answer else ""
-        return "teach", radio + teach_line(heard.sender, *taught), taught
+        return "teach", radio + teach_line(telegram.sender, *teach_result), teach_result
 
-    def teach_in_result(self, kind, own, sender):
+    def teach_in_result(self, kind, eep_and_maker, sender):
         """The profile, the maker and the result that the teach line names, or None if the table is silent."""
         if self.mode == "closed":
             return None
-        by_mode = self.mode.startswith("as ")
-        what, _, word = ACTIONS_BY_TELEGRAM_KIND[kind][by_mode].partition(" ")
-        if what == "silent":
+        is_learn_as = self.mode.startswith("as ")
+        action, _, word = ACTIONS_BY_TELEGRAM_KIND[kind][is_learn_as].partition(" ")
+        if action == "silent":
             return None
-        if what == "tell":
-            return *own, word
-        if what == "forget":
+        if action == "tell":
+            return *eep_and_maker, word
+        if action == "forget":
             self.forget_device(sender)
-            return *own, "deleted"
-        if what == "as" and self.mode[3:5] != word:
+            return *eep_and_maker, "deleted"
+        if action == "as" and self.mode[3:5] != word:
             return None
-        eep = self.mode[3:] if what == "as" else own[0] if word == "own" else word
-        maker = own[1]
+        eep = self.mode[3:] if action == "as" else eep_and_maker[0] if word == "own" else word
+        maker = eep_and_maker[1]
         if not is_supported(eep):
             return eep, maker, "unsupported"
         if self.has_no_room_for(sender):
             return eep, maker, "full"
         self.devices[sender] = (eep, maker)
-        if by_mode:
+        if is_learn_as:
             self.mode = "closed"
         return eep, maker, "accepted"

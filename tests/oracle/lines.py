@@ -2,8 +2,8 @@
 import json
 
 
-def json_line(value):
-    return json.dumps(value, sort_keys=True, separators=(",", ":")) + "\n"
+def json_line(members):
+    return json.dumps(members, sort_keys=True, separators=(",", ":")) + "\n"
 
 
 OK_LINE = json_line({"type": "ok"})
@@ -19,10 +19,10 @@ def teach_line(sender, eep, maker, result):
 
 def device_lines(devices, labels={}):
     """The devices are profiles and makers by sender. A sender without a label has the empty label."""
-    listed = sorted(devices.items())
+    sorted_devices = sorted(devices.items())
     return "".join(
         json_line(
             {"eep": eep, "id": f"{sender:08X}", "label": labels.get(sender, ""), "maker": maker, "type": "device"}
         )
-        for sender, (eep, maker) in listed
-    ) + json_line({"count": len(listed), "type": "list"})
+        for sender, (eep, maker) in sorted_devices
+    ) + json_line({"count": len(sorted_devices), "type": "list"})

@@ -66,11 +66,11 @@ VALUE_PATTERNS = {
 def parsed_values(words, text):
     """The values that this line has at the words in capitals, or None if it does not fit the words."""
     words = words.split(" ")
-    said = text.split(" ", len(words) - 1 if words[-1] == "TEXT" else -1)
-    if len(words) != len(said):
+    said_words = text.split(" ", len(words) - 1 if words[-1] == "TEXT" else -1)
+    if len(words) != len(said_words):
         return None
     values = {}
-    for word, as_said in zip(words, said):
+    for word, as_said in zip(words, said_words):
         if word not in VALUE_PATTERNS:
             if word != as_said:
                 return None
@@ -87,7 +87,8 @@ def parsed_values(words, text):
 
 def matching_orders(text):
     """The rows that this line fits: its values, what is done, and by what."""
-    rows = ((parsed_values(words, text), does, by) for words, does, by in ORDERS_BY_NAME.get(text.split(" ")[0], []))
+    rows = ((parsed_values(words, text), does, payload_form)
+            for words, does, payload_form in ORDERS_BY_NAME.get(text.split(" ")[0], []))
     return [row for row in rows if row[0] is not None]
 
 
@@ -97,11 +98,11 @@ def is_in_range(values):
     return all(values.get(word, 0) <= greatest for word, greatest in MAX_VALUES.items())
 
 
-def order_payload(by, values):
+def order_payload(payload_form, values):
     """The bytes of a payload in the table."""
 
     def byte(word):
-        name, _, more = word.partition("+")
-        return values[name] + int(more or "0", 16) if name in values else int(word, 16)
+        name, _, addition = word.partition("+")
+        return values[name] + int(addition or "0", 16) if name in values else int(word, 16)
 
-    return bytes(byte(word) for word in by.split(" "))
+    return bytes(byte(word) for word in payload_form.split(" "))

@@ -6,69 +6,69 @@ from fractions import Fraction
 # values. `ends` are numbers at which the meaning changes.
 
 
-def linear_scale_decoder(low, high, first, last, unit):
+def linear_scale_decoder(first_raw, last_raw, first_value, last_value, unit):
     """The number `low` stands for `first`, and `high` for `last`."""
-    first, last = Fraction(first), Fraction(last)
+    first_value, last_value = Fraction(first_value), Fraction(last_value)
 
-    def read(number, _bits):
-        if not min(low, high) <= number <= max(low, high):
-            return {"out_of_range": number}
-        value = first + (number - low) * (last - first) / (high - low)
+    def decode(raw, _bits):
+        if not min(first_raw, last_raw) <= raw <= max(first_raw, last_raw):
+            return {"out_of_range": raw}
+        value = first_value + (raw - first_raw) * (last_value - first_value) / (last_raw - first_raw)
         return {"num": value.numerator, "den": value.denominator, "unit": unit}
 
-    read.ends = [low, high]
-    return read
+    decode.ends = [first_raw, last_raw]
+    return decode
 
 
 def word_table_decoder(table):
-    def read(number, _bits):
-        return {"word": table[number]} if number in table else {"out_of_range": number}
+    def decode(raw, _bits):
+        return {"word": table[raw]} if raw in table else {"out_of_range": raw}
 
-    read.ends = list(table)
-    return read
+    decode.ends = list(table)
+    return decode
 
 
-def threshold_decoder(bound, lower, upper):
-    def read(number, _bits):
-        return {"word": lower if number < bound else upper}
+def threshold_decoder(raw_bound, lower, upper):
+    def decode(raw, _bits):
+        return {"word": lower if raw < raw_bound else upper}
 
-    read.ends = [bound - 1, bound]
-    return read
+    decode.ends = [raw_bound - 1, raw_bound]
+    return decode
 
 
 def percent_decoder(word):
-    inner = linear_scale_decoder(0, 100, 0, 100, "%")
+    decode_percent = linear_scale_decoder(0, 100, 0, 100, "%")
 
-    def read(number, bits):
-        return {"word": word} if number == 127 else inner(number, bits)
+    def decode(raw, bits):
+        return {"word": word} if raw == 127 else decode_percent(raw, bits)
 
-    read.ends = [0, 100, 127]
-    return read
+    decode.ends = [0, 100, 127]
+    return decode
 
 
 def power_of_ten_decoder(offset, length, unit):
-    def read(number, bits):
-        value = Fraction(number, 10 ** bit_field_value(bits, offset, length))
+    def decode(raw, bits):
+        value = Fraction(raw, 10 ** bit_field_value(bits, offset, length))
         return {"num": value.numerator, "den": value.denominator, "unit": unit}
 
-    read.ends = [0, 1, 10]
-    return read
+    decode.ends = [0, 1, 10]
+    return decode
 
 
 def integer_decoder(unit):
-    def read(number, _bits):
-        return {"num": number, "den": 1, "unit": unit}
+    def decode(raw, _bits):
+        return {"num": raw, "den": 1, "unit": unit}
 
-    read.ends = [0, 1, 1234]
-    return read
-
-
-def decode_raw_number(number, _bits):
-    return {"raw": number}
+    decode.ends = [0, 1, 1234]
+    return decode
 
 
-def decode_undefined_number(number, _bits):
-    return {"out_of_range": number}
+def decode_raw_number(raw, _bits):
+    return {"raw": raw}
+
+
+def decode_undefined_number(raw, _bits):
+    return {"out_of_range": raw}
 
 
 decode_raw_number.ends = []
@@ -187,8 +187,8 @@ SUPPORTED_PROFILES = {
 }
 
 
-def eep_text(number):
-    return number.to_bytes(3, "big").hex("-").upper()
+def eep_text(eep):
+    return eep.to_bytes(3, "big").hex("-").upper()
 
 
 def is_supported(eep):
@@ -210,15 +210,15 @@ def bytes_with_fields(size, fields, fill=0):
 def decoded_fields(rows, payload, status):
     """The readings of the rows, in their order."""
     bits = bit_text(payload)
-    found = []
+    readings = []
     for name, offset, length, condition, kind in rows:
         holds = all(
-            (status >> 4 & 1 if place == NU_STATUS_BIT else bit_field_value(bits, *place)) == value
-            for place, value in condition.items()
+            (status >> 4 & 1 if field_place == NU_STATUS_BIT else bit_field_value(bits, *field_place)) == value
+            for field_place, value in condition.items()
         )
         if holds:
-            found.append({"name": name, **kind(bit_field_value(bits, offset, length), bits)})
-    return found
+            readings.append({"name": name, **kind(bit_field_value(bits, offset, length), bits)})
+    return readings
 
 
 def telegram_readings(eep, rorg, payload, status):

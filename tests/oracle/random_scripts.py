@@ -63,12 +63,13 @@ def random_letter_case(rng, digits):
 
 def mutate_line(rng, line):
     """The line with a byte replaced, inserted or removed, or with more bytes at its end, so that it may be too long."""
-    at = rng.randrange(len(line))
+    index = rng.randrange(len(line))
     byte = bytes([rng.choice(MUTATION_BYTES)])
     count = rng.choice([1, 2, 300, max(1, rng.randrange(195, 205) - len(line))])
-    more = bytes(rng.choices(b"0123456789abcdefABCDEF \r", k=count))
-    before, behind = line[:at], line[at + 1 :]
-    return rng.choice([before + byte + behind, before + byte + line[at:], before + behind, line + more])
+    inserted_bytes = bytes(rng.choices(b"0123456789abcdefABCDEF \r", k=count))
+    bytes_before, bytes_after = line[:index], line[index + 1 :]
+    return rng.choice([bytes_before + byte + bytes_after, bytes_before + byte + line[index:],
+                       bytes_before + bytes_after, line + inserted_bytes])
 
 
 def profile_number(eep):
@@ -97,7 +98,7 @@ def random_label_order(rng, sender):
     return b"label " + sender + usual_or_rare(rng, b" " + text, b"")
 
 
-def random_order(rng, devices, learns):
+def random_order(rng, devices, learn_share):
     """An order of the desk; `learns` is how frequent the `learn` orders are."""
     sender = random_letter_case(
         rng, f"{usual_or_rare(rng, rng.choice(devices)[0], 0, 0xFFFFFFFF, rng.getrandbits(32)):08x}"
@@ -105,34 +106,35 @@ def random_order(rng, devices, learns):
     eep = random_letter_case(rng, usual_or_rare(rng, random_profile(rng), *UNSUPPORTED_PROFILES))
     lines = [b"add " + sender + b" " + eep] * 5 + [b"remove " + sender] * 3 + [random_label_order(rng, sender)] * 5
     line = rng.choice([*lines, b"list", b"status"])
-    if rng.random() < learns:
+    if rng.random() < learn_share:
         line = random_learn_order(rng)
     return usual_or_rare(rng, line, mutate_line(rng, line))
 
 
-def random_number(rng, most):
+def random_number(rng, greatest):
     """A number of this range, nine times in ten."""
     if rng.random() < 0.9:
-        return str(rng.choice([0, most, rng.randrange(most + 1)]))
-    past = [most + 1, 128, 255, 256, 256 + most, 65536, 65536 + most, 99999, rng.randrange(100000)]
-    return rng.choice([str(rng.choice(past)), rng.choice(INVALID_NUMBERS)])
+        return str(rng.choice([0, greatest, rng.randrange(greatest + 1)]))
+    numbers_past_limit = [greatest + 1, 128, 255, 256, 256 + greatest, 65536, 65536 + greatest, 99999,
+                          rng.randrange(100000)]
+    return rng.choice([str(rng.choice(numbers_past_limit)), rng.choice(INVALID_NUMBERS)])
 
 
 def misspell_order(rng, line):
     """The line with a space too many or too few, a word too many or too few, or in another case."""
     words = line.split(b" ")
-    at = rng.randrange(len(words))
-    front, back = words[:at], words[at:]
+    index = rng.randrange(len(words))
+    words_before, words_after = words[:index], words[index:]
     space = rng.choice([b"  ", b"\t", b"", b" ", b","])
     return rng.choice(
         [
-            b" ".join(front) + space + b" ".join(back),
-            b" ".join(front + [b""] + back),
+            b" ".join(words_before) + space + b" ".join(words_after),
+            b" ".join(words_before + [b""] + words_after),
             line + b" ",
-            b" ".join(front + back[1:]),
-            b" ".join(front),
-            b" ".join(front + back[:1] + back),
-            b" ".join(front + [back[0].swapcase()] + back[1:]),
+            b" ".join(words_before + words_after[1:]),
+            b" ".join(words_before),
+            b" ".join(words_before + words_after[:1] + words_after),
+            b" ".join(words_before + [words_after[0].swapcase()] + words_after[1:]),
             b" ".join(rng.sample(words, len(words))),
         ]
     )
@@ -143,19 +145,19 @@ def random_actuator_orders(rng, devices):
     before."""
     lines = []
     if rng.random() < 0.3:
-        shape, *ends = rng.choice(BROADCAST_ORDERS)
+        order_form, *limits = rng.choice(BROADCAST_ORDERS)
     else:
-        begin, shape, *ends = rng.choice(DEVICE_ORDERS)
-        fit = [one for one, eep in devices if eep.startswith(begin)] or [devices[0][0]]
-        one = usual_or_rare(
-            rng, rng.choice(fit), rng.choice(devices)[0], 0, 0xFFFFFFFE, 0xFFFFFFFF, rng.getrandbits(32)
+        eep_start, order_form, *limits = rng.choice(DEVICE_ORDERS)
+        fitting_senders = [sender for sender, eep in devices if eep.startswith(eep_start)] or [devices[0][0]]
+        sender = usual_or_rare(
+            rng, rng.choice(fitting_senders), rng.choice(devices)[0], 0, 0xFFFFFFFE, 0xFFFFFFFF, rng.getrandbits(32)
         )
         if rng.random() < 0.4:
-            right = rng.choice(SUPPORTED_BY_RORG_AND_FUNC[0xD2][profile_number(begin)])
-            lines.append(f"add {one:08X} {usual_or_rare(rng, right, random_profile(rng))}".encode())
-        digits = random_letter_case(rng, f"{one:08x}").decode()
-        shape = shape.replace("ID", digits if rng.random() < 0.95 else rng.choice([digits[1:], digits + "0"]))
-    line = shape.format(*(random_number(rng, most) for most in ends)).encode()
+            right_eep = rng.choice(SUPPORTED_BY_RORG_AND_FUNC[0xD2][profile_number(eep_start)])
+            lines.append(f"add {sender:08X} {usual_or_rare(rng, right_eep, random_profile(rng))}".encode())
+        digits = random_letter_case(rng, f"{sender:08x}").decode()
+        order_form = order_form.replace("ID", digits if rng.random() < 0.95 else rng.choice([digits[1:], digits + "0"]))
+    line = order_form.format(*(random_number(rng, greatest) for greatest in limits)).encode()
     return [*lines, rng.choice([line] * 6 + [misspell_order(rng, line), mutate_line(rng, line)])]
 
 
@@ -170,12 +172,12 @@ def random_4bs_query(rng):
 def random_ute_payload(rng, eep):
     """The payload of a UTE telegram: usually a query, otherwise a reply. Its profile is usually supported, and often is
     this one. Some have a byte too few or too many."""
-    told = profile_number(usual_or_rare(rng, rng.choice([eep, random_profile(rng)]), *UNSUPPORTED_PROFILES))
-    told = usual_or_rare(rng, told, told ^ 1 << rng.randrange(24), rng.getrandbits(24))
-    asks = rng.randrange(16) << 4 | usual_or_rare(rng, 0, *range(1, 16))
+    eep_in_query = profile_number(usual_or_rare(rng, rng.choice([eep, random_profile(rng)]), *UNSUPPORTED_PROFILES))
+    eep_in_query = usual_or_rare(rng, eep_in_query, eep_in_query ^ 1 << rng.randrange(24), rng.getrandbits(24))
+    request = rng.randrange(16) << 4 | usual_or_rare(rng, 0, *range(1, 16))
     unused = rng.randrange(32) << 11
     maker = unused | usual_or_rare(rng, rng.randrange(2048), 0, 2047)
-    payload = bytes([asks, rng.randrange(256)]) + maker.to_bytes(2, "little") + told.to_bytes(3, "little")
+    payload = bytes([request, rng.randrange(256)]) + maker.to_bytes(2, "little") + eep_in_query.to_bytes(3, "little")
     return rng.choice([payload] * 18 + [payload[:-1], payload + rng.randbytes(1)])
 
 
@@ -197,16 +199,16 @@ def random_teach_in_payload(rng, eep):
     )
 
 
-def random_telegram(rng, devices, base, teaches):
+def random_telegram(rng, devices, base, teach_share):
     """The packet of a telegram; `teaches` is how frequent those of teach-in are."""
     sender, eep = rng.choice(devices)
     rorg = usual_or_rare(rng, int(eep[:2], 16), *PAYLOAD_SIZES, 0xA6, rng.randrange(256))
     size = usual_or_rare(rng, rng.choice(PAYLOAD_SIZES.get(rorg, [1, 4])), *range(8), 14, 15, rng.randrange(300))
     payload = bytearray(rng.choices(rng.choice([range(256), b"\0\x08\x0b\xfa\xfb\xff"]), k=size))
     if rorg == 0xD2 and size and rng.random() < 0.9:
-        at = 3 if size == 4 else 0
-        payload[at] = payload[at] & 0xF0 | (7 if size == 6 else 4)
-    if rng.random() < teaches:
+        lrn_index = 3 if size == 4 else 0
+        payload[lrn_index] = payload[lrn_index] & 0xF0 | (7 if size == 6 else 4)
+    if rng.random() < teach_share:
         rorg, payload = random_teach_in_payload(rng, eep)
     sender = usual_or_rare(rng, sender, 0, 0xFFFFFFFF, base, base + 5, rng.getrandbits(32))
     status = usual_or_rare(rng, rng.choice([0x00, 0x20, 0x30]), rng.randrange(256))
@@ -235,19 +237,20 @@ def random_header(rng):
     return packet(rng.randrange(4), bytes(size), bytes(usual_or_rare(rng, 0, 1, 7, 255)))[:6]
 
 
-def corrupt_packet(rng, whole):
+def corrupt_packet(rng, intact_packet):
     """A packet with a wrong bit, or without its end."""
-    at = rng.randrange(len(whole))
-    return usual_or_rare(rng, whole[:at] + bytes([whole[at] ^ 1 << rng.randrange(8)]) + whole[at + 1 :], whole[:at])
+    index = rng.randrange(len(intact_packet))
+    return usual_or_rare(rng, intact_packet[:index] + bytes([intact_packet[index] ^ 1 << rng.randrange(8)])
+                         + intact_packet[index + 1 :], intact_packet[:index])
 
 
-def random_stream(rng, devices, base, teaches):
+def random_stream(rng, devices, base, teach_share):
     """Bytes of the serial line. Some telegrams are sent a few times."""
     kind = rng.randrange(12)
     if kind < 6:
-        return random_telegram(rng, devices, base, teaches) * usual_or_rare(rng, 1, 2, 3)
+        return random_telegram(rng, devices, base, teach_share) * usual_or_rare(rng, 1, 2, 3)
     if kind < 8:
-        return corrupt_packet(rng, random_telegram(rng, devices, base, teaches))
+        return corrupt_packet(rng, random_telegram(rng, devices, base, teach_share))
     if kind == 8:
         return random_response(rng)
     if kind == 9:
@@ -258,40 +261,40 @@ def random_stream(rng, devices, base, teaches):
 
 
 def random_script(rng, base):
-    learns = teaches = acts = 0
-    counts, firsts, lengths = [1, 3, 10, 1100], [10, 10, 990, 1000, 1001], [5, 50, 300]
+    learn_share = teach_share = order_share = 0
+    device_counts, learned_counts, line_counts = [1, 3, 10, 1100], [10, 10, 990, 1000, 1001], [5, 50, 300]
     if rng.random() < 0.67:
-        learns, teaches = rng.choice([0.1, 0.5, 0.8]), rng.choice([0.1, 0.5, 0.8])
-        counts, firsts, lengths = [3, 10, 1100, 1100], [0, 2, 999, 1000, 1000], [50, 300, 300]
-    devices = [(rng.getrandbits(32), random_profile(rng)) for _ in range(rng.choice(counts))]
+        learn_share, teach_share = rng.choice([0.1, 0.5, 0.8]), rng.choice([0.1, 0.5, 0.8])
+        device_counts, learned_counts, line_counts = [3, 10, 1100, 1100], [0, 2, 999, 1000, 1000], [50, 300, 300]
+    devices = [(rng.getrandbits(32), random_profile(rng)) for _ in range(rng.choice(device_counts))]
     if rng.random() < 0.5:
-        acts = rng.choice([0.2, 0.6, 2])
+        order_share = rng.choice([0.2, 0.6, 2])
         eeps = ["D2-01-00", "D2-01-12", "D2-05-00", random_profile(rng), random_profile(rng)]
-        some = [(rng.getrandbits(32), eep) for eep in eeps]
-        devices = some[: rng.randrange(1, 6)] + devices
-    lines = [f"add {one:08X} {eep}".encode() for one, eep in devices[: rng.choice(firsts)]]
-    if learns:
+        senders_and_eeps = [(rng.getrandbits(32), eep) for eep in eeps]
+        devices = senders_and_eeps[: rng.randrange(1, 6)] + devices
+    lines = [f"add {sender:08X} {eep}".encode() for sender, eep in devices[: rng.choice(learned_counts)]]
+    if learn_share:
         devices = devices[:3] + devices[-2:] + [(rng.getrandbits(32), random_profile(rng)) for _ in range(3)]
-    wrongs = rng.choice([0, 0.01, 0.2])
-    for _ in range(rng.choice(lengths)):
+    mutation_share = rng.choice([0, 0.01, 0.2])
+    for _ in range(rng.choice(line_counts)):
         if rng.random() < 0.3:
-            lines.append(random_order(rng, devices, learns))
-        if rng.random() < acts:
+            lines.append(random_order(rng, devices, learn_share))
+        if rng.random() < order_share:
             for _ in range(rng.choice([1, 1, 5])):
                 lines += random_actuator_orders(rng, devices)
-        whole = b"".join(random_stream(rng, devices, base, teaches) for _ in range(rng.choice([1, 1, 5])))
-        while whole:
+        stream = b"".join(random_stream(rng, devices, base, teach_share) for _ in range(rng.choice([1, 1, 5])))
+        while stream:
             size = rng.choice([0, 1, 2, 24, 24, 99, 99, rng.randrange(100)])
-            line = b"S " + random_letter_case(rng, whole[:size].hex())
-            lines.append(mutate_line(rng, line) if rng.random() < wrongs else line)
-            whole = whole[size:]
+            line = b"S " + random_letter_case(rng, stream[:size].hex())
+            lines.append(mutate_line(rng, line) if rng.random() < mutation_share else line)
+            stream = stream[size:]
     ends = [b"S " + b"00" * 99] * 665  # as many bytes as any header announces
     text = b"".join(line + usual_or_rare(rng, b"\n", b"\r\n") for line in [*lines, *ends, b"status", b"list"])
     return usual_or_rare(rng, text, text[: -rng.randrange(1, 20)])
 
 
-def script_of_seed(number):
+def script_of_seed(seed):
     """The base ID and the text of the script of this number."""
-    rng = random.Random(number)
+    rng = random.Random(seed)
     base = 0xFF800000 + 128 * rng.choice([0, 1, 0xFFFF, rng.randrange(0x10000)])
     return f"{base:08X}", random_script(rng, base)

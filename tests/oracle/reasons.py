@@ -32,7 +32,7 @@ REASONS_OF_LEARNED_SENDERS = ["read", "wrong_kind", "wrong_length", "other_messa
 
 def first_true_case(cases):
     """The word of the first case that holds."""
-    return next(word for word, holds in cases if holds)
+    return next(word for word, is_true in cases if is_true)
 
 
 def packet_reason(kind, data):
@@ -47,41 +47,42 @@ def packet_reason(kind, data):
     )
 
 
-def telegram_reason(heard, mode, known, taught):
+def telegram_reason(telegram, mode, known_device, teach_result):
     """The reason, for a telegram that came in this mode. `known` has the stored profile and maker of its sender; it is
     None if the sender was not learned. `taught` has the profile, the maker and the result of its teach line, if any."""
-    kind, _ = telegram_kind(heard.rorg, heard.payload, known is not None)
+    kind, _ = telegram_kind(telegram.rorg, telegram.payload, known_device is not None)
     is_data = kind in DATA_TELEGRAM_KINDS
     return first_true_case(
         [
-            ("from_broadcast", heard.sender == BROADCAST_ID),
-            ("for_others", not heard.is_for_gateway()),
+            ("from_broadcast", telegram.sender == BROADCAST_ID),
+            ("for_others", not telegram.is_for_gateway()),
             ("teach_in_reply", kind == "reply"),
-            (taught and taught[2], taught),
+            (teach_result and teach_result[2], teach_result),
             ("window_closed", not is_data and mode == "closed"),
             ("other_mode", not is_data),
-            ("unknown_sender", known is None),
-            ("read", known and telegram_readings(known[0], heard.rorg, heard.payload, heard.status) is not None),
-            (known and unreadable_reason(known[0], heard.rorg, heard.payload), True),
+            ("unknown_sender", known_device is None),
+            ("read", known_device
+             and telegram_readings(known_device[0], telegram.rorg, telegram.payload, telegram.status) is not None),
+            (known_device and unreadable_reason(known_device[0], telegram.rorg, telegram.payload), True),
         ]
     )
 
 
-def explanation_members(heard, why, known, taught):
+def explanation_members(telegram, reason, known_device, teach_result):
     """The members of the line for a telegram. Its profile and maker are those that it contains itself, as a query does;
     otherwise those with which its sender is learned, by this telegram or, if it is data that is read, before."""
-    eep, maker = telegram_kind(heard.rorg, heard.payload, known is not None)[1]
-    if eep is None and why == "accepted":
-        eep, maker, _ = taught
-    elif eep is None and why in REASONS_OF_LEARNED_SENDERS:
-        eep, maker = known
+    eep, maker = telegram_kind(telegram.rorg, telegram.payload, known_device is not None)[1]
+    if eep is None and reason == "accepted":
+        eep, maker, _ = teach_result
+    elif eep is None and reason in REASONS_OF_LEARNED_SENDERS:
+        eep, maker = known_device
     return {
-        "dbm": heard.dbm,
-        "dest": None if heard.destination == BROADCAST_ID else f"{heard.destination:08X}",
+        "dbm": telegram.dbm,
+        "dest": None if telegram.destination == BROADCAST_ID else f"{telegram.destination:08X}",
         "eep": eep,
-        "id": f"{heard.sender:08X}",
+        "id": f"{telegram.sender:08X}",
         "maker": maker,
-        "payload": heard.payload.hex().upper(),
-        "rorg": f"{heard.rorg:02X}",
-        "status": f"{heard.status:02X}",
+        "payload": telegram.payload.hex().upper(),
+        "rorg": f"{telegram.rorg:02X}",
+        "status": f"{telegram.status:02X}",
     }

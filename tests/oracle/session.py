@@ -22,19 +22,19 @@ SESSION_PARTS = ["script", "plain", "explained"]  # the script, what is written 
 def session_steps(session):
     """The lines of the script, each with its end, and what is below it."""
     for step in re.split(rb"(?m)^> ", session)[1:]:
-        line, end, below = step.partition(b"\n")
-        if below.startswith(NO_LF_MARK):
-            end, below = b"", below[len(NO_LF_MARK) :]
-        yield line + end, below
+        line, line_end, lines_below = step.partition(b"\n")
+        if lines_below.startswith(NO_LF_MARK):
+            line_end, lines_below = b"", lines_below[len(NO_LF_MARK) :]
+        yield line + line_end, lines_below
 
 
 def text_of_session(session, part):
     """The script of a golden session, or what is written for it without or with `--explain`: one of SESSION_PARTS."""
-    lines, below = map(b"".join, zip(*session_steps(session), (b"", b"")))
+    lines, lines_below = map(b"".join, zip(*session_steps(session), (b"", b"")))
     return {
         "script": lines,
-        "plain": re.sub(rb"(?m)^\+ .*\n", b"", below),
-        "explained": re.sub(rb"(?m)^\+ ", b"", below),
+        "plain": re.sub(rb"(?m)^\+ .*\n", b"", lines_below),
+        "explained": re.sub(rb"(?m)^\+ ", b"", lines_below),
     }[part]
 
 

@@ -7,9 +7,9 @@ from oracle.session import NO_LF_MARK, read_session, session_steps
 MODE_ORDERS = {"closed": "learn off", "on": "learn on", "answer": "learn on answer"}
 
 
-def every_nth_item(items, number, of):
+def every_nth_item(items, offset, step):
     """The items whose place plus `number` is a multiple of `of`. Cases with `of` successive numbers have all items."""
-    return [item for place, item in enumerate(items) if (place + number) % of == 0]
+    return [item for index, item in enumerate(items) if (index + offset) % step == 0]
 
 
 class Session:
@@ -58,9 +58,9 @@ class Session:
         self.add_lines("list")
 
 
-def repeat_lines(session, kept):
+def repeat_lines(session, session_text):
     """Adds the lines of a stored session, with the answers of the oracle."""
-    for line, _ in session_steps(kept):
+    for line, _ in session_steps(session_text):
         text = line.decode(errors="surrogateescape")
         if text.endswith("\n"):
             session.add_lines(text[:-1])

@@ -43,22 +43,22 @@ REPLY_CODES_UTE = {"accepted": 1, "deleted": 2, "unsupported": 3, "full": 0, "ge
 
 def telegram_kind(rorg, payload, known):
     """The kind of a telegram, and the profile and the maker that it names."""
-    last = payload[-1]
+    last_byte = payload[-1]
     if rorg == 0xD4:
-        first, _, low, high, *profile = payload
-        if first % 16 != 0:
+        first_byte, _, maker_low, maker_high, *profile = payload
+        if first_byte % 16 != 0:
             return "reply", (None, None)
         eep = "-".join(f"{byte:02X}" for byte in reversed(profile))
-        return UTE_QUERY_KINDS[first // 16 % 4], (eep, low + high % 8 * 256)
-    if rorg == 0xD5 and last & 0x08 == 0:
+        return UTE_QUERY_KINDS[first_byte // 16 % 4], (eep, maker_low + maker_high % 8 * 256)
+    if rorg == 0xD5 and last_byte & 0x08 == 0:
         return "1BS teach-in", (None, None)
-    if rorg == 0xA5 and last & 0x08 == 0:
-        if last & 0x80 == 0:
+    if rorg == 0xA5 and last_byte & 0x08 == 0:
+        if last_byte & 0x80 == 0:
             return "4BS bare teach-in", (None, None)
-        if last & 0x10:
+        if last_byte & 0x10:
             return "reply", (None, None)
-        number = int.from_bytes(payload, "big")
-        func, variant, maker = number >> 26, number >> 19 & 0x7F, number >> 8 & 0x7FF
+        bits = int.from_bytes(payload, "big")
+        func, variant, maker = bits >> 26, bits >> 19 & 0x7F, bits >> 8 & 0x7FF
         return "4BS query", (f"A5-{func:02X}-{variant:02X}", maker)
     if rorg == 0xF6 and not known and payload[0] & 0x10:
         return "RPS press, stranger", (None, None)

@@ -29,14 +29,14 @@ DEVICE_PROFILES = ("D5-00-01", "F6-02-01", "A5-02-05", "A5-04-01", "D2-01-12")
 FIRST_SENDER, DEVICE_COUNT = 0x01800A00, 40
 
 
-def random_change_lines(number, rng):
+def random_change_lines(change_number, rng):
     """Lines that make a change of any kind."""
-    device, other = (f"{FIRST_SENDER + rng.randrange(DEVICE_COUNT):08X}" for _ in range(2))
+    device, other_device = (f"{FIRST_SENDER + rng.randrange(DEVICE_COUNT):08X}" for _ in range(2))
     sender = FIRST_SENDER + rng.randrange(DEVICE_COUNT)
     return rng.choice((
         [f"add {device} {rng.choice(DEVICE_PROFILES)}"],
-        [f"add {device} {rng.choice(DEVICE_PROFILES)}", f"label {device} L{number}"],
-        [f"label {device} Lamp {number}", f"label {other}"], [f"remove {device}"],
+        [f"add {device} {rng.choice(DEVICE_PROFILES)}", f"label {device} L{change_number}"],
+        [f"label {device} Lamp {change_number}", f"label {other_device}"], [f"remove {device}"],
         ["learn on", telegram_line(TEACH_IN_1BS, sender), telegram_line(QUERY_4BS, sender + 1), "learn off"],
         ["learn on answer", telegram_line(UTE_QUERY, sender), telegram_line(UTE_DELETION, sender + 1), "learn off"],
         ["learn as F6-02-01", telegram_line(ROCKER_PRESS, sender), "learn off"],
@@ -54,9 +54,9 @@ def version_1_gateway():
 
 def restarted_gateway(gateway):
     """The gateway after another start."""
-    new = Gateway()
-    new.devices, new.labels = copy.deepcopy(gateway.devices), copy.deepcopy(gateway.labels)
-    return new
+    new_gateway = Gateway()
+    new_gateway.devices, new_gateway.labels = copy.deepcopy(gateway.devices), copy.deepcopy(gateway.labels)
+    return new_gateway
 
 
 class GatewayRuns:
@@ -68,7 +68,7 @@ class GatewayRuns:
         self.program, self.folder, self.environment = program, folder, environment
         self.size_of_log, self.places_of = size_of_log, places_of
         self.gateway = Gateway()
-        self.states, self.acknowledged, self.places = [self.gateway], [0], []
+        self.states, self.acknowledged_sizes, self.places = [self.gateway], [0], []
 
     def start_with_version_1(self):
         """The first run migrates a registry of version 1."""
@@ -85,33 +85,33 @@ class GatewayRuns:
         words = [self.program, "replay", "--base", BASE, "--db", self.database_path]
         self.gateway = restarted_gateway(self.gateway)
         with subprocess.Popen(words, stdin=subprocess.PIPE, stdout=subprocess.PIPE, env=self.environment) as process:
-            for number in range(changes):
-                for line in random_change_lines(number, rng):
+            for change_number in range(changes):
+                for line in random_change_lines(change_number, rng):
                     self.give_and_compare(process, line)
             self.end_run(process, rng)
 
     def give_and_compare(self, process, line):
         """Gives a line, and waits for its answer, which must be that of the oracle."""
         self.gateway = copy.deepcopy(self.gateway)
-        wanted = self.gateway.answer(line).encode()
+        expected_answer = self.gateway.answer(line).encode()
         process.stdin.write(line.encode() + b"\n")
         process.stdin.flush()
-        found = process.stdout.read(len(wanted))
-        assert found == wanted, (line, found, wanted)
-        if is_device_change(line, wanted.decode()):
+        answer = process.stdout.read(len(expected_answer))
+        assert answer == expected_answer, (line, answer, expected_answer)
+        if is_device_change(line, expected_answer.decode()):
             self.keep_state(self.gateway)
 
     def keep_state(self, gateway):
         """Keeps the next state, which the program has reported."""
         self.gateway = gateway
         self.states.append(gateway)
-        self.acknowledged.append(self.size_of_log())
-        self.places.append((self.acknowledged[-1], self.places_of(self.database_path)))
+        self.acknowledged_sizes.append(self.size_of_log())
+        self.places.append((self.acknowledged_sizes[-1], self.places_of(self.database_path)))
 
     def end_run(self, process, rng):
         """Ends a run: by the end of its input, by a signal, or by SIGKILL in the middle of a change."""
-        way = rng.choice(("input", signal.SIGTERM, signal.SIGKILL, "change"))
-        if way == "change":
+        end_method = rng.choice(("input", signal.SIGTERM, signal.SIGKILL, "change"))
+        if end_method == "change":
             # it may be carried out or not; the next run finds what became of it
             line = f"add {FIRST_SENDER + rng.randrange(DEVICE_COUNT):08X} {rng.choice(DEVICE_PROFILES)}"
             process.stdin.write(line.encode() + b"\n")
@@ -119,18 +119,19 @@ class GatewayRuns:
             process.kill()
             process.wait()
             self.keep_state_if_done(line)
-        elif way != "input":
-            process.send_signal(way)
+        elif end_method != "input":
+            process.send_signal(end_method)
 
     def keep_state_if_done(self, line):
         """Looks in the database whether this line was carried out, and keeps the next state if it was."""
-        before, after = restarted_gateway(self.gateway), restarted_gateway(self.gateway)
-        after.answer(line)
-        found = subprocess.run([self.program, "replay", "--base", BASE, "--db", self.database_path], input=b"list\n",
-                               stdout=subprocess.PIPE, env=self.environment).stdout.decode()
-        assert found in (before.device_list(), after.device_list()), (line, found)
-        if found == after.device_list():
-            self.keep_state(after)
+        gateway_before, gateway_after = restarted_gateway(self.gateway), restarted_gateway(self.gateway)
+        gateway_after.answer(line)
+        listed_output = subprocess.run([self.program, "replay", "--base", BASE, "--db", self.database_path],
+                                       input=b"list\n",
+                                       stdout=subprocess.PIPE, env=self.environment).stdout.decode()
+        assert listed_output in (gateway_before.device_list(), gateway_after.device_list()), (line, listed_output)
+        if listed_output == gateway_after.device_list():
+            self.keep_state(gateway_after)
 
 
 def expected_check_answers(gateway):
@@ -141,22 +142,22 @@ def expected_check_answers(gateway):
 
 def expected_check_states(gateway):
     """The gateway after each line of a check that changes it."""
-    found = []
+    states = []
     for line in CHECK_LINES:
         gateway = restarted_gateway(gateway)
         if is_device_change(line, gateway.answer(line)):
-            found.append(gateway)
-    return found
+            states.append(gateway)
+    return states
 
 
 def check_database(program, path, states):
     """Gives the lines of a check to the program with this database. Returns the number of the first of these states
     whose answers it gives, and an empty text; if it gives those of none, None and what it did."""
     text = "".join(f"{line}\n" for line in CHECK_LINES).encode()
-    done = subprocess.run([program, "replay", "--base", BASE, "--db", path], input=text, capture_output=True)
-    found = done.stdout.decode()
-    if done.returncode == 0:
-        for number, state in enumerate(states):
-            if found == expected_check_answers(state):
-                return number, ""
-    return None, f"status {done.returncode}, {done.stderr.decode()!r}, {found!r}"
+    process = subprocess.run([program, "replay", "--base", BASE, "--db", path], input=text, capture_output=True)
+    output = process.stdout.decode()
+    if process.returncode == 0:
+        for state_number, state in enumerate(states):
+            if output == expected_check_answers(state):
+                return state_number, ""
+    return None, f"status {process.returncode}, {process.stderr.decode()!r}, {output!r}"

@@ -18,17 +18,17 @@ class RecordedDisk(Operations):
     """The folder with the file."""
 
     def __init__(self, size, log, image=None):
-        self.data = bytearray(size)
+        self.disk_bytes = bytearray(size)
         if image:
             with open(image, "rb") as file:
-                file.readinto(self.data)
+                file.readinto(self.disk_bytes)
         self.log = open(log, "ab", buffering=0)
 
     def getattr(self, path, fh=None):
         if path == "/":
             return {"st_mode": stat.S_IFDIR | 0o755, "st_nlink": 2}
         if path == f"/{DISK_FILE_NAME}":
-            return {"st_mode": stat.S_IFREG | 0o600, "st_nlink": 1, "st_size": len(self.data)}
+            return {"st_mode": stat.S_IFREG | 0o600, "st_nlink": 1, "st_size": len(self.disk_bytes)}
         raise FuseOSError(errno.ENOENT)
 
     def readdir(self, path, fh):
@@ -38,12 +38,12 @@ class RecordedDisk(Operations):
         return 0
 
     def read(self, path, size, offset, fh):
-        return bytes(self.data[offset:offset + size])
+        return bytes(self.disk_bytes[offset:offset + size])
 
-    def write(self, path, data, offset, fh):
-        self.data[offset:offset + len(data)] = data
-        self.log.write(records.packed_write_record(offset, data))
-        return len(data)
+    def write(self, path, content, offset, fh):
+        self.disk_bytes[offset:offset + len(content)] = content
+        self.log.write(records.packed_write_record(offset, content))
+        return len(content)
 
     def fsync(self, path, datasync, fh):
         self.log.write(records.FLUSH_RECORD)

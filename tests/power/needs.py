@@ -24,6 +24,6 @@ def default_seed():
 
 def print_and_skip(reasons):
     """Prints what is missing. Returns the exit status of a test that is skipped for these reasons."""
-    for why in reasons:
-        print(f"tests/power: skipped, since this is missing: {why}")
+    for reason in reasons:
+        print(f"tests/power: skipped, since this is missing: {reason}")
     return int("SKIP_NOTHING" in os.environ)

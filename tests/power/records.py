@@ -16,9 +16,9 @@ CUT_MODES = {
 }
 
 
-def packed_write_record(offset, data):
+def packed_write_record(offset, content):
     """The record of a write."""
-    return RECORD_HEADER.pack(offset, len(data)) + data
+    return RECORD_HEADER.pack(offset, len(content)) + content
 
 
 @dataclasses.dataclass(frozen=True)
@@ -35,55 +35,55 @@ class DiskRecord:
 
 def records_in(log):
     """The records of a log."""
-    found, place = [], 0
-    while place < len(log):
-        offset, size = RECORD_HEADER.unpack_from(log, place)
-        place += RECORD_HEADER.size + size
-        found.append(DiskRecord(offset, log[place - size:place], place))
-    return found
+    records, log_offset = [], 0
+    while log_offset < len(log):
+        offset, size = RECORD_HEADER.unpack_from(log, log_offset)
+        log_offset += RECORD_HEADER.size + size
+        records.append(DiskRecord(offset, log[log_offset - size:log_offset], log_offset))
+    return records
 
 
 class DiskImage:
     """The contents of a disk: the pages that are not empty, by their numbers."""
 
     def __init__(self, pages=()):
-        self.pages = {number: bytearray(page) for number, page in dict(pages).items()}
+        self.pages = {page_number: bytearray(page) for page_number, page in dict(pages).items()}
 
     @classmethod
     def from_file(cls, path):
         """The image in a file."""
         image = cls()
         with open(path, "rb") as file:
-            number = 0
+            page_number = 0
             while page := file.read(PAGE_SIZE):
                 if any(page):
-                    image.pages[number] = bytearray(page.ljust(PAGE_SIZE, b"\0"))
-                number += 1
+                    image.pages[page_number] = bytearray(page.ljust(PAGE_SIZE, b"\0"))
+                page_number += 1
         return image
 
     def copy(self):
         return DiskImage(self.pages)
 
-    def write(self, offset, data):
+    def write(self, offset, content):
         """Writes these bytes."""
-        place = 0
-        while place < len(data):
-            number, start = divmod(offset + place, PAGE_SIZE)
-            part = data[place:place + PAGE_SIZE - start]
-            self.pages.setdefault(number, bytearray(PAGE_SIZE))[start:start + len(part)] = part
-            place += len(part)
+        written_size = 0
+        while written_size < len(content):
+            page_number, start = divmod(offset + written_size, PAGE_SIZE)
+            page_part = content[written_size:written_size + PAGE_SIZE - start]
+            self.pages.setdefault(page_number, bytearray(PAGE_SIZE))[start:start + len(page_part)] = page_part
+            written_size += len(page_part)
 
     def read(self, offset, size):
         """Bytes of one page."""
-        number, start = divmod(offset, PAGE_SIZE)
-        return bytes(self.pages.get(number, bytearray(PAGE_SIZE))[start:start + size])
+        page_number, start = divmod(offset, PAGE_SIZE)
+        return bytes(self.pages.get(page_number, bytearray(PAGE_SIZE))[start:start + size])
 
     def save(self, path, size):
         """Makes this file the image of a disk of this size."""
         with open(path, "wb") as file:
             file.truncate(size)
-            for number, page in self.pages.items():
-                file.seek(number * PAGE_SIZE)
+            for page_number, page in self.pages.items():
+                file.seek(page_number * PAGE_SIZE)
                 file.write(page)
 
 
@@ -92,20 +92,21 @@ class PowerCutter:
     `places` has the parts of the disk with the files of the gateway: for several sizes of the log, the starts and ends
     of the parts when it had this size."""
 
-    def __init__(self, image, found, places=()):
-        self.image, self.records, self.places = image.copy(), found, places
+    def __init__(self, image, records, extents_by_log_size=()):
+        self.image, self.records, self.extents_by_log_size = image.copy(), records, extents_by_log_size
         # how many records the image has
         self.count = 0
 
     def image_after(self, cut, mode, rng):
         """The image if the power fails after so many records."""
-        last = max((number for number in range(cut) if self.records[number].is_flush), default=0)
-        for record in self.records[self.count:last]:
+        last_flush = max((record_number for record_number in range(cut) if self.records[record_number].is_flush),
+                         default=0)
+        for record in self.records[self.count:last_flush]:
             if not record.is_flush:
                 self.image.write(record.offset, record.data)
-        self.count = max(self.count, last)
+        self.count = max(self.count, last_flush)
         image = self.image.copy()
-        for record in self.records[last:cut]:
+        for record in self.records[last_flush:cut]:
             if not record.is_flush and mode != "none":
                 self.write_part(image, record, mode, rng)
         return image
@@ -114,24 +115,25 @@ class PowerCutter:
         """Writes what this mode leaves of a record."""
         size = CUT_MODES[mode] or len(record.data)
         for start in range(0, len(record.data), size):
-            part = record.data[start:start + size]
-            if mode == "bytes" and self.is_of_gateway(record, start, len(part)):
-                part = interrupted_write_bytes(image.read(record.offset + start, len(part)), part, rng)
+            content = record.data[start:start + size]
+            if mode == "bytes" and self.is_of_gateway(record, start, len(content)):
+                content = interrupted_write_bytes(image.read(record.offset + start, len(content)), content, rng)
             elif mode != "all" and rng.random() < 0.5:
                 continue
-            image.write(record.offset + start, part)
+            image.write(record.offset + start, content)
 
     def is_of_gateway(self, record, start, size):
         """Whether this part of a record is in a file of the gateway."""
-        first = record.offset + start
-        parts = next((parts for size_of_log, parts in self.places if size_of_log >= record.end), [])
-        return any(begin <= first and first + size <= end for begin, end in parts)
+        first_byte = record.offset + start
+        extents = next((extents for size_of_log, extents in self.extents_by_log_size if size_of_log >= record.end), [])
+        return any(extent_start <= first_byte and first_byte + size <= extent_end
+                   for extent_start, extent_end in extents)
 
 
-def interrupted_write_bytes(old, new, rng):
+def interrupted_write_bytes(old_bytes, new_bytes, rng):
     """What a power failure may leave of a write: each byte that was to change has the old, the new, or any value."""
-    return bytes(before if before == after else rng.choice((before, after, rng.randrange(256)))
-                 for before, after in zip(old, new))
+    return bytes(old_byte if old_byte == new_byte else rng.choice((old_byte, new_byte, rng.randrange(256)))
+                 for old_byte, new_byte in zip(old_bytes, new_bytes))
 
 
 def choose_cuts(count, cuts, rng: random.Random):

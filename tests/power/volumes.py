@@ -53,10 +53,10 @@ def missing_file_system_requirement(name):
 
 def run_command(*words):
     """Runs a command that must succeed, and returns what it printed."""
-    done = subprocess.run(words, stdout=subprocess.PIPE, stderr=subprocess.PIPE, text=True)
-    if done.returncode:
-        raise MountError(f"{' '.join(map(str, words))}: {done.stderr.strip()}")
-    return done.stdout.strip()
+    process = subprocess.run(words, stdout=subprocess.PIPE, stderr=subprocess.PIPE, text=True)
+    if process.returncode:
+        raise MountError(f"{' '.join(map(str, words))}: {process.stderr.strip()}")
+    return process.stdout.strip()
 
 
 @contextlib.contextmanager
@@ -74,15 +74,15 @@ def mounted(name, image, folder):
     """Mounts the image of this file system in the folder."""
     kind, _, _, options = FILE_SYSTEMS[name]
     with loop_device(image) as device:
-        for number in range(MOUNT_TRIES):
+        for try_number in range(MOUNT_TRIES):
             try:
                 run_command("mount", "-t", kind, "-o", options, device, folder)
                 break
             except MountError:
-                if number == MOUNT_TRIES - 1:
+                if try_number == MOUNT_TRIES - 1:
                     raise
                 time.sleep(PAUSE)
-                if number == MOUNT_TRIES - 2 and kind in REPAIR_COMMANDS:
+                if try_number == MOUNT_TRIES - 2 and kind in REPAIR_COMMANDS:
                     subprocess.run([*REPAIR_COMMANDS[kind], device],
                                    stdout=subprocess.DEVNULL, stderr=subprocess.DEVNULL)
         try:
@@ -140,10 +140,12 @@ def file_extents(name, path):
     with open(path, "rb") as file:
         fcntl.ioctl(file, FIEMAP_REQUEST, request)
     count = REQUEST.unpack_from(request)[3]
-    found = [EXTENT.unpack_from(request, REQUEST.size + number * EXTENT.size) for number in range(count)]
-    return [(place, place + size) for _, place, size, _, _, flags, *_ in found if not flags & EXTENTS_WITHOUT_PLACE]
+    extents = [EXTENT.unpack_from(request, REQUEST.size + extent_number * EXTENT.size)
+               for extent_number in range(count)]
+    return [(extent_start, extent_start + size)
+            for _, extent_start, size, _, _, flags, *_ in extents if not flags & EXTENTS_WITHOUT_PLACE]
 
 
 def database_extents(name, path):
     """The parts of the disk that have the contents of this database and of its log."""
-    return [place for end in ("", "-wal") for place in file_extents(name, path + end)]
+    return [extent for file_end in ("", "-wal") for extent in file_extents(name, path + file_end)]

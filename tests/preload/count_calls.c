@@ -13,7 +13,7 @@
 #include <unistd.h>
 
 enum { READ_TERMINAL, READ_FILE, READ_OTHER, WRITE, STATX, LSEEK, ISATTY, CLOCK, KINDS };
-static const char *const names[KINDS] = {"read terminal", "read file", "read other", "write",
+static const char *const call_names[KINDS] = {"read terminal", "read file", "read other", "write",
                                          "statx",         "lseek",     "isatty",     "clock_gettime"};
 static long counts[KINDS];
 
@@ -25,32 +25,32 @@ static int is_terminal(int file)
 
 static int is_regular_file(int file)
 {
-    struct stat what;
-    return syscall(SYS_fstat, file, &what) == 0 && S_ISREG(what.st_mode);
+    struct stat status;
+    return syscall(SYS_fstat, file, &status) == 0 && S_ISREG(status.st_mode);
 }
 
-ssize_t read(int file, void *to, size_t size)
+ssize_t read(int file, void *buffer, size_t size)
 {
     counts[is_terminal(file) ? READ_TERMINAL : is_regular_file(file) ? READ_FILE : READ_OTHER]++;
-    return syscall(SYS_read, file, to, size);
+    return syscall(SYS_read, file, buffer, size);
 }
 
-ssize_t write(int file, const void *from, size_t size)
+ssize_t write(int file, const void *buffer, size_t size)
 {
     counts[WRITE]++;
-    return syscall(SYS_write, file, from, size);
+    return syscall(SYS_write, file, buffer, size);
 }
 
-int statx(int folder, const char *path, int flags, unsigned mask, struct statx *what)
+int statx(int folder, const char *path, int flags, unsigned mask, struct statx *status)
 {
     counts[STATX]++;
-    return syscall(SYS_statx, folder, path, flags, mask, what);
+    return syscall(SYS_statx, folder, path, flags, mask, status);
 }
 
-off_t lseek(int file, off_t place, int from)
+off_t lseek(int file, off_t offset, int origin)
 {
     counts[LSEEK]++;
-    return syscall(SYS_lseek, file, place, from);
+    return syscall(SYS_lseek, file, offset, origin);
 }
 
 int isatty(int file)
@@ -59,12 +59,12 @@ int isatty(int file)
     return is_terminal(file);
 }
 
-int clock_gettime(clockid_t clock, struct timespec *now)
+int clock_gettime(clockid_t clock, struct timespec *time)
 {
     counts[CLOCK]++;
     if (!getenv("STOP_CLOCK"))
-        return syscall(SYS_clock_gettime, clock, now);
-    *now = (struct timespec){.tv_sec = 1};
+        return syscall(SYS_clock_gettime, clock, time);
+    *time = (struct timespec){.tv_sec = 1};
     return 0;
 }
 
@@ -74,8 +74,8 @@ __attribute__((destructor)) static void write_counts(void)
     FILE *file = path ? fopen(path, "w") : NULL;
     if (!file)
         return;
-    for (int kind = 0; kind < KINDS; kind++)
-        if (counts[kind])
-            fprintf(file, "%s %ld\n", names[kind], counts[kind]);
+    for (int call_kind = 0; call_kind < KINDS; call_kind++)
+        if (counts[call_kind])
+            fprintf(file, "%s %ld\n", call_names[call_kind], counts[call_kind]);
     fclose(file);
 }

@@ -7,16 +7,16 @@
 #include <stdlib.h>
 #include <unistd.h>
 
-static ssize_t (*next)(int, const void *, size_t);
+static ssize_t (*next_write)(int, const void *, size_t);
 static long count;
 
-ssize_t write(int file, const void *from, size_t size)
+ssize_t write(int file, const void *buffer, size_t size)
 {
-    if (!next)
-        next = (ssize_t(*)(int, const void *, size_t))dlsym(RTLD_NEXT, "write");
+    if (!next_write)
+        next_write = (ssize_t(*)(int, const void *, size_t))dlsym(RTLD_NEXT, "write");
     if (file == 1)
         count++;
-    return next(file, from, size);
+    return next_write(file, buffer, size);
 }
 
 __attribute__((destructor)) static void write_count(void)

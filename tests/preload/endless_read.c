@@ -9,20 +9,20 @@
 
 static long count;
 
-ssize_t read(int file, void *to, size_t size)
+ssize_t read(int file, void *buffer, size_t size)
 {
-    static ssize_t (*next)(int, void *, size_t);
-    static long most;
-    if (!next) {
+    static ssize_t (*next_read)(int, void *, size_t);
+    static long max_reads;
+    if (!next_read) {
         char *text = getenv("READS");
-        next = (ssize_t(*)(int, void *, size_t))dlsym(RTLD_NEXT, "read");
-        most = text ? atol(text) : 0;
+        next_read = (ssize_t(*)(int, void *, size_t))dlsym(RTLD_NEXT, "read");
+        max_reads = text ? atol(text) : 0;
     }
     if (file != 0)
-        return next(file, to, size);
-    if (++count > most || size == 0)
+        return next_read(file, buffer, size);
+    if (++count > max_reads || size == 0)
         return 0;
-    *(char *)to = 'x';
+    *(char *)buffer = 'x';
     return 1;
 }
 

@@ -13,12 +13,12 @@
 
 /* The size of the last write to a log, and the log that has yet to be synced, or -1. */
 static size_t last_size;
-static int late = -1;
+static int late_log = -1;
 
 static int is_chosen_fault(const char *fault)
 {
-    const char *chosen = getenv("LOSE_SYNC");
-    return chosen && strcmp(chosen, fault) == 0;
+    const char *chosen_fault = getenv("LOSE_SYNC");
+    return chosen_fault && strcmp(chosen_fault, fault) == 0;
 }
 
 static int has_path_ending(const char *end, int file)
@@ -41,15 +41,15 @@ static int is_lost_sync(int file)
     if (!is_log(file))
         return 0;
     if (is_chosen_fault("late") && last_size == 1)
-        late = file;
+        late_log = file;
     return (is_chosen_fault("commit") || is_chosen_fault("late")) && last_size == 1;
 }
 
-ssize_t pwrite(int file, const void *from, size_t size, off_t place)
+ssize_t pwrite(int file, const void *buffer, size_t size, off_t offset)
 {
     if (is_log(file))
         last_size = size;
-    return syscall(SYS_pwrite64, file, from, size, place);
+    return syscall(SYS_pwrite64, file, buffer, size, offset);
 }
 
 int fsync(int file)
@@ -62,11 +62,11 @@ int fdatasync(int file)
     return is_lost_sync(file) ? 0 : syscall(SYS_fdatasync, file);
 }
 
-ssize_t read(int file, void *to, size_t size)
+ssize_t read(int file, void *buffer, size_t size)
 {
-    if (file == 0 && late >= 0) {
-        syscall(SYS_fdatasync, late);
-        late = -1;
+    if (file == 0 && late_log >= 0) {
+        syscall(SYS_fdatasync, late_log);
+        late_log = -1;
     }
-    return syscall(SYS_read, file, to, size);
+    return syscall(SYS_read, file, buffer, size);
 }

@@ -14,10 +14,10 @@ void *__libc_memalign(size_t, size_t);
 
 static void record_allocation(size_t size)
 {
-    char *records = getenv("RECORD_GROWTHS"), *from = getenv("RECORD_FROM"), text[32];
-    if (!records || !from || size < strtoul(from, NULL, 10))
+    char *records_path = getenv("RECORD_GROWTHS"), *min_size = getenv("RECORD_FROM"), text[32];
+    if (!records_path || !min_size || size < strtoul(min_size, NULL, 10))
         return;
-    int file = syscall(SYS_openat, AT_FDCWD, records, O_CREAT | O_APPEND | O_WRONLY, 0600);
+    int file = syscall(SYS_openat, AT_FDCWD, records_path, O_CREAT | O_APPEND | O_WRONLY, 0600);
     int length = snprintf(text, sizeof text, "%zu\n", size);
     if (write(file, text, length) == length)
         close(file);
@@ -29,21 +29,21 @@ void *malloc(size_t size)
     return __libc_malloc(size);
 }
 
-void *realloc(void *old, size_t size)
+void *realloc(void *old_block, size_t size)
 {
     record_allocation(size);
-    return __libc_realloc(old, size);
+    return __libc_realloc(old_block, size);
 }
 
-void *aligned_alloc(size_t align, size_t size)
+void *aligned_alloc(size_t alignment, size_t size)
 {
     record_allocation(size);
-    return __libc_memalign(align, size);
+    return __libc_memalign(alignment, size);
 }
 
-int posix_memalign(void **out, size_t align, size_t size)
+int posix_memalign(void **result, size_t alignment, size_t size)
 {
     record_allocation(size);
-    *out = __libc_memalign(align, size);
-    return *out ? 0 : ENOMEM;
+    *result = __libc_memalign(alignment, size);
+    return *result ? 0 : ENOMEM;
 }

@@ -19,24 +19,24 @@ void *__libc_memalign(size_t, size_t);
 static const char *chosen_kind;
 static long chosen_number, count;
 
-static int is_call_refused(const char *kind, int error)
+static int is_call_refused(const char *kind, int error_number)
 {
     if (!chosen_kind) {
-        char *number = getenv("REFUSE_NUMBER");
+        char *number_text = getenv("REFUSE_NUMBER");
         chosen_kind = getenv("REFUSE_KIND");
         if (!chosen_kind)
             chosen_kind = "none";
-        chosen_number = number ? atol(number) : 0;
+        chosen_number = number_text ? atol(number_text) : 0;
     }
     if (strcmp(kind, chosen_kind) != 0)
         return 0;
     count++;
     if (chosen_number == 0 || count < chosen_number || (count > chosen_number && !getenv("REFUSE_ON")))
         return 0;
-    char *mark = getenv("REFUSE_MARK");
-    if (mark)
-        syscall(SYS_close, syscall(SYS_openat, AT_FDCWD, mark, O_CREAT | O_WRONLY, 0600));
-    errno = error;
+    char *mark_path = getenv("REFUSE_MARK");
+    if (mark_path)
+        syscall(SYS_close, syscall(SYS_openat, AT_FDCWD, mark_path, O_CREAT | O_WRONLY, 0600));
+    errno = error_number;
     return 1;
 }
 
@@ -45,37 +45,37 @@ void *malloc(size_t size)
     return is_call_refused("growth", ENOMEM) ? NULL : __libc_malloc(size);
 }
 
-void *realloc(void *old, size_t size)
+void *realloc(void *old_block, size_t size)
 {
-    return is_call_refused("growth", ENOMEM) ? NULL : __libc_realloc(old, size);
+    return is_call_refused("growth", ENOMEM) ? NULL : __libc_realloc(old_block, size);
 }
 
-void *aligned_alloc(size_t align, size_t size)
+void *aligned_alloc(size_t alignment, size_t size)
 {
-    return is_call_refused("growth", ENOMEM) ? NULL : __libc_memalign(align, size);
+    return is_call_refused("growth", ENOMEM) ? NULL : __libc_memalign(alignment, size);
 }
 
-int posix_memalign(void **out, size_t align, size_t size)
+int posix_memalign(void **result, size_t alignment, size_t size)
 {
     if (is_call_refused("growth", ENOMEM))
         return ENOMEM;
-    *out = __libc_memalign(align, size);
-    return *out ? 0 : ENOMEM;
+    *result = __libc_memalign(alignment, size);
+    return *result ? 0 : ENOMEM;
 }
 
-ssize_t read(int file, void *to, size_t size)
+ssize_t read(int file, void *buffer, size_t size)
 {
-    return file == 0 && is_call_refused("input", EIO) ? -1 : syscall(SYS_read, file, to, size);
+    return file == 0 && is_call_refused("input", EIO) ? -1 : syscall(SYS_read, file, buffer, size);
 }
 
-ssize_t pread(int file, void *to, size_t size, off_t place)
+ssize_t pread(int file, void *buffer, size_t size, off_t offset)
 {
-    return is_call_refused("read", EIO) ? -1 : syscall(SYS_pread64, file, to, size, place);
+    return is_call_refused("read", EIO) ? -1 : syscall(SYS_pread64, file, buffer, size, offset);
 }
 
-ssize_t pwrite(int file, const void *from, size_t size, off_t place)
+ssize_t pwrite(int file, const void *buffer, size_t size, off_t offset)
 {
-    return is_call_refused("write", ENOSPC) ? -1 : syscall(SYS_pwrite64, file, from, size, place);
+    return is_call_refused("write", ENOSPC) ? -1 : syscall(SYS_pwrite64, file, buffer, size, offset);
 }
 
 int fsync(int file)
@@ -93,7 +93,7 @@ int ftruncate(int file, off_t length)
     return is_call_refused("truncation", EIO) ? -1 : syscall(SYS_ftruncate, file, length);
 }
 
-__attribute__((destructor)) static void tell(void)
+__attribute__((destructor)) static void write_count(void)
 {
     char *path = getenv("COUNT_CALLS"), text[32];
     if (!path)

@@ -6,16 +6,16 @@
 #include <stdlib.h>
 #include <unistd.h>
 
-ssize_t write(int file, const void *from, size_t size)
+ssize_t write(int file, const void *buffer, size_t size)
 {
-    static ssize_t (*next)(int, const void *, size_t);
-    static long chosen = -1, count;
-    if (!next) {
+    static ssize_t (*next_write)(int, const void *, size_t);
+    static long chosen_number = -1, count;
+    if (!next_write) {
         char *text = getenv("STOP_WRITE");
-        next = (ssize_t(*)(int, const void *, size_t))dlsym(RTLD_NEXT, "write");
-        chosen = text ? atol(text) : 0;
+        next_write = (ssize_t(*)(int, const void *, size_t))dlsym(RTLD_NEXT, "write");
+        chosen_number = text ? atol(text) : 0;
     }
-    if (file == 1 && ++count == chosen)
+    if (file == 1 && ++count == chosen_number)
         raise(SIGKILL);
-    return next(file, from, size);
+    return next_write(file, buffer, size);
 }

@@ -41,17 +41,17 @@ def joined_lines(lines):
     return "".join(line + "\n" for line in lines)
 
 
-def expected_answers(lines, refused=(), fault="memory", gateway=None):
+def expected_answers(lines, refused_numbers=(), fault="memory", gateway=None):
     """The required answer to each line, if the lines with these numbers fail with this error."""
     gateway = gateway or Gateway()
-    found = []
-    for number, line in enumerate(lines):
-        if number in refused:
+    answers = []
+    for line_number, line in enumerate(lines):
+        if line_number in refused_numbers:
             gateway.counts["refused"] += 1
-            found.append(error_line(fault))
+            answers.append(error_line(fault))
         else:
-            found.append(gateway.answer(line))
-    return found
+            answers.append(gateway.answer(line))
+    return answers
 
 
 def expected_run(lines, fault="", status=0):
@@ -69,29 +69,29 @@ def is_device_change(line, answer):
     return re.search('"(accepted|deleted)"', answer) or (line.startswith("label ") and answer == OK_LINE)
 
 
-def possible_lists(lines, refused):
+def possible_lists(lines, refused_numbers):
     """The answers to `list` that a start may give after a run in which the lines with these numbers were refused. In
     the first, all that was acknowledged is done, and nothing else. The others are for an end that was not clean: one
     more change is done, which was refused after the last one that was acknowledged."""
-    gateway, others = Gateway(), []
-    for number, line in enumerate(lines):
-        if number in refused:
-            other = copy.deepcopy(gateway)
-            other.answer(line)
-            others.append(other.device_list())
+    gateway, possible_answers = Gateway(), []
+    for line_number, line in enumerate(lines):
+        if line_number in refused_numbers:
+            other_gateway = copy.deepcopy(gateway)
+            other_gateway.answer(line)
+            possible_answers.append(other_gateway.device_list())
         elif is_device_change(line, gateway.answer(line)):
-            others = []
-    return [gateway.device_list(), *others]
+            possible_answers = []
+    return [gateway.device_list(), *possible_answers]
 
 
 def failed_line_numbers(lines, output):
     """The numbers of the lines that failed, if each line was answered as the oracle says or, if it needs the database,
     with `store`; otherwise None."""
-    gateway, numbers = Gateway(), []
-    for number, line in enumerate(lines):
+    gateway, failed_numbers = Gateway(), []
+    for line_number, line in enumerate(lines):
         needs_store = not re.match("learn|status|S 5500010002", line)
         if needs_store and output.startswith(error_line("store")):
-            numbers.append(number)
+            failed_numbers.append(line_number)
             gateway.counts["refused"] += 1
             answer = error_line("store")
         else:
@@ -99,14 +99,14 @@ def failed_line_numbers(lines, output):
         if not output.startswith(answer):
             return None
         output = output[len(answer) :]
-    return numbers if output == "" else None
+    return failed_numbers if output == "" else None
 
 
-def kept_devices_check(lines, refused):
+def kept_devices_check(lines, refused_numbers):
     """Whether a start after a run finds what it may, by its case; `refused` has the lines refused in each case."""
 
-    def is_so(case, run_result, database):
-        lists = possible_lists([] if case == "start" else lines, refused[case])
+    def is_so(case_name, run_result, database):
+        lists = possible_lists([] if case_name == "start" else lines, refused_numbers[case_name])
         return run_script("list\n", database=database)[0] in (lists if run_result[2] else lists[:1])
 
     return is_so

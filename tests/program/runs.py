@@ -54,10 +54,10 @@ def limit_memory():
 REPLAY_COMMAND = ["replay"]
 
 
-def live_command(serial=os.devnull, desk="/dev/stdin", turns=8):
+def live_command(serial=os.devnull, desk="/dev/stdin", turn_count=8):
     """The words of a run of `live` that prints its answers. Without other paths its standard input is the desk, of
     which it reads at most 256 bytes in each turn, and the serial line has no bytes."""
-    return ["live", "--serial", serial, "--desk", desk, "--out", "/dev/stdout", "--turns", str(turns)]
+    return ["live", "--serial", serial, "--desk", desk, "--out", "/dev/stdout", "--turns", str(turn_count)]
 
 
 def program_command(base, database, service=REPLAY_COMMAND):
@@ -67,8 +67,8 @@ def program_command(base, database, service=REPLAY_COMMAND):
 def run_script(script, base="FF800000", database=None, service=REPLAY_COMMAND, **settings):
     """The text that a run writes to its two streams, and its status. The script comes through a pipe."""
     words = program_command(base, database, service)
-    done = subprocess.run(words, input=script, capture_output=True, text=True, **settings)
-    return done.stdout, done.stderr, done.returncode
+    process = subprocess.run(words, input=script, capture_output=True, text=True, **settings)
+    return process.stdout, process.stderr, process.returncode
 
 
 def preload_environment(work, source, **variables):
@@ -77,49 +77,52 @@ def preload_environment(work, source, **variables):
     if not library.exists():
         source = ROOT / "tests" / "preload" / source
         subprocess.run(["cc", "-O1", "-shared", "-fPIC", "-o", library, source, "-ldl"], check=True)
-    values = {name: str(value) for name, value in variables.items()}
+    values = {name: str(variable_value) for name, variable_value in variables.items()}
     return {**os.environ, "LD_PRELOAD": str(library), **values}
 
 
 def count_calls(work, kind, script, database=None, **settings):
     """How many calls of this kind a run makes."""
-    counted = work / "calls"
+    count_file = work / "calls"
     run_script(script, database=database, env=preload_environment(
-        work, REFUSE_CALL_SOURCE, REFUSE_KIND=kind, COUNT_CALLS=counted), **settings)
-    return int(counted.read_text())
+        work, REFUSE_CALL_SOURCE, REFUSE_KIND=kind, COUNT_CALLS=count_file), **settings)
+    return int(count_file.read_text())
 
 
 def check_each_failed_call(
-    work, name, kind, script, case_of, cases, database=None, is_kept=None, first=1, on=False, service=REPLAY_COMMAND
+    work, name, kind, script, case_of, case_names, database=None, is_kept=None, first_call=1, stays_broken=False,
+    service=REPLAY_COMMAND
 ):
     """Each call of this kind fails in turn, from number `first` on, by itself or with all calls after it; in the end
     none fails. Each run is on the database of its number. It ends in a case, `none` if no call fails, and then
     `is_kept` holds for the database. Each of these cases occurs."""
-    last = count_calls(work, kind, script, database and database(0), service=service)
+    call_count = count_calls(work, kind, script, database and database(0), service=service)
     preload_environment(work, REFUSE_CALL_SOURCE)
 
-    def differs(number):
-        mark, path = work / f"mark_{number}", database and database(number)
-        call = {"REFUSE_KIND": kind, "REFUSE_NUMBER": number, "REFUSE_MARK": mark, **({"REFUSE_ON": 1} if on else {})}
-        ended = run_script(
-            script, database=path, service=service, env=preload_environment(work, REFUSE_CALL_SOURCE, **call)
+    def differs(call_number):
+        mark_file, path = work / f"mark_{call_number}", database and database(call_number)
+        preload_variables = {"REFUSE_KIND": kind, "REFUSE_NUMBER": call_number, "REFUSE_MARK": mark_file,
+                             **({"REFUSE_ON": 1} if stays_broken else {})}
+        run_result = run_script(
+            script, database=path, service=service,
+            env=preload_environment(work, REFUSE_CALL_SOURCE, **preload_variables)
         )
-        case = case_of(ended)
-        met.add(case)
-        was_refused = mark.exists()
-        mark.unlink(missing_ok=True)
-        is_so = case and was_refused == (number <= last) and (was_refused or case == "none")
-        is_so = is_so and (not is_kept or is_kept(case, ended, path))
-        return None if is_so else f"number {number}, {case or 'of no case'}: {ended}"
+        case_name = case_of(run_result)
+        cases_met.add(case_name)
+        was_refused = mark_file.exists()
+        mark_file.unlink(missing_ok=True)
+        is_so = case_name and was_refused == (call_number <= call_count) and (was_refused or case_name == "none")
+        is_so = is_so and (not is_kept or is_kept(case_name, run_result, path))
+        return None if is_so else f"number {call_number}, {case_name or 'of no case'}: {run_result}"
 
-    met = set()
+    cases_met = set()
     with concurrent.futures.ThreadPoolExecutor(os.cpu_count()) as pool:
-        differ = [text for text in pool.map(differs, range(first, last + 2)) if text]
-    report_check(f"each of {last + 1 - first} {name}", not differ and met == set(cases))
-    for text in differ[:3]:
+        difference_texts = [text for text in pool.map(differs, range(first_call, call_count + 2)) if text]
+    report_check(f"each of {call_count + 1 - first_call} {name}", not difference_texts and cases_met == set(case_names))
+    for text in difference_texts[:3]:
         print(text)
-    if missing := set(cases) - met:
-        print(f"not met: {missing}")
+    if missing_cases := set(case_names) - cases_met:
+        print(f"not met: {missing_cases}")
 
 
 def device_ids_in(database):

@@ -88,10 +88,11 @@ class ReplayRunsTest(ProgramTest):
     def test_orders_at_the_greatest_base_id(self):
         """The last sender of this base ID would be the broadcast ID."""
         script = "teach 127\ncentral 127 on\nlevel 127 0 0\nteach 126\ncentral 126 on\n"
-        first = "S 55000a0701eba5e047ff80fffffffe0003ffffffffff0061\n"
-        second = "S 55000a0701eba501000009fffffffe0003ffffffffff00cc\n"
+        first_line = "S 55000a0701eba5e047ff80fffffffe0003ffffffffff0061\n"
+        second_line = "S 55000a0701eba501000009fffffffe0003ffffffffff00cc\n"
         self.assert_run(
-            self.run_replay(base="FFFFFF80", script=script), 3 * RANGE_ERROR_LINE + first + OK_LINE + second + OK_LINE
+            self.run_replay(base="FFFFFF80", script=script),
+            3 * RANGE_ERROR_LINE + first_line + OK_LINE + second_line + OK_LINE
         )
 
     def test_bad_bases(self):

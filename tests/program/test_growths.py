@@ -41,24 +41,24 @@ class AllocationsTest(ProgramTest):
 
     def count_allocations_of_command(self, serve, *options, **settings):
         """How many allocations a run of this service has, and what it prints."""
-        counted = self.work / "counted"
-        counted.unlink(missing_ok=True)
-        env = self.preload_environment(REFUSE_CALL_SOURCE, REFUSE_KIND="growth", COUNT_CALLS=counted)
+        count_file = self.work / "counted"
+        count_file.unlink(missing_ok=True)
+        env = self.preload_environment(REFUSE_CALL_SOURCE, REFUSE_KIND="growth", COUNT_CALLS=count_file)
         run = serve(*options, env=env, **settings)
         self.assertEqual((decoded_text(run.stderr), run.returncode), ("", 0))
-        return int(counted.read_text()), decoded_text(run.stdout)
+        return int(count_file.read_text()), decoded_text(run.stdout)
 
-    def assert_equal_allocations(self, one, other):
+    def assert_equal_allocations(self, script, other_script):
         """Runs on these two scripts have as many allocations. Returns what the second one prints."""
-        other_growths, output = self.count_allocations(other)
-        self.assertEqual(self.count_allocations(one)[0], other_growths)
+        other_growths, output = self.count_allocations(other_script)
+        self.assertEqual(self.count_allocations(script)[0], other_growths)
         return output
 
     def allocations_by_packet(self, orders, line, *options):
         """How many allocations this packet has after these orders, and how many when it comes a second and a third
         time."""
-        made = [self.count_allocations(orders + times * line, *options)[0] for times in range(4)]
-        return [after - before for before, after in zip(made, made[1:])]
+        counts = [self.count_allocations(orders + repetitions * line, *options)[0] for repetitions in range(4)]
+        return [count_after - count_before for count_before, count_after in zip(counts, counts[1:])]
 
     def allocations_of_reading(self):
         """How many allocations one line of output has."""
@@ -85,16 +85,16 @@ class DatabaseQueriesTest(AllocationsTest):
                 )
 
     def test_each_packet_of_a_learned_device_takes_as_much_memory(self):
-        line, *others = self.allocations_by_packet(ADD_ORDER, READING_PACKET_LINE)
-        self.assertGreater(line, 0)
-        self.assertEqual(others, [line, line])
+        line_count, *other_counts = self.allocations_by_packet(ADD_ORDER, READING_PACKET_LINE)
+        self.assertGreater(line_count, 0)
+        self.assertEqual(other_counts, [line_count, line_count])
 
     def test_only_the_first_packet_after_a_start_asks_the_database(self):
         """The packets after it need less memory than the query itself."""
-        line = self.allocations_of_reading()
-        first, *others = self.allocations_by_packet("", READING_PACKET_LINE, *self.file_registry_options())
-        self.assertEqual(others, [line, line])
-        self.assertGreater(first - line, line)
+        line_count = self.allocations_of_reading()
+        first_count, *other_counts = self.allocations_by_packet("", READING_PACKET_LINE, *self.file_registry_options())
+        self.assertEqual(other_counts, [line_count, line_count])
+        self.assertGreater(first_count - line_count, line_count)
 
 
 class RememberedSendersTest(AllocationsTest, LiveTest):
@@ -112,8 +112,8 @@ class RememberedSendersTest(AllocationsTest, LiveTest):
         """The line has bytes 00 for the turns that read the orders."""
         self.desk.write_text(orders)
         self.line.write_bytes(bytes(-(-len(orders) // 256) * 256) + packets)
-        turns = -(-self.line.stat().st_size // 256)
-        growths, _ = self.count_allocations_of_command(self.run_live, *options, turns=turns)
+        turn_count = -(-self.line.stat().st_size // 256)
+        growths, _ = self.count_allocations_of_command(self.run_live, *options, turn_count=turn_count)
         return growths, self.answers.read_text()
 
     def assert_senders_cached(self, serve, orders, *options):
@@ -123,8 +123,8 @@ class RememberedSendersTest(AllocationsTest, LiveTest):
             senders = [*range(1024), *senders, *senders, *senders]
             return serve(orders, b"".join(telegram_packet(0xD5, b"\x09", sender) for sender in senders), *options)
 
-        (one, _), (other, output) = served([7] * 1000 + [1000] * 24), served(range(1024))
-        self.assertEqual(one, other)
+        (count_of_cached, _), (count_of_uncached, output) = served([7] * 1000 + [1000] * 24), served(range(1024))
+        self.assertEqual(count_of_cached, count_of_uncached)
         self.assertEqual(output.count('"type":"reading"'), 4000)
 
     def test_senders_are_remembered_in_memory(self):
@@ -145,11 +145,11 @@ class OutputLineAllocationsTest(AllocationsTest):
 
     def allocation_sizes(self, script):
         """How many allocations of each size a run has; the sizes are in bytes."""
-        recorded = self.work / "recorded"
-        recorded.unlink(missing_ok=True)
+        record_file = self.work / "recorded"
+        record_file.unlink(missing_ok=True)
         self.run_replay(script=script, env=self.preload_environment(
-            "record_growths.c", RECORD_GROWTHS=recorded, RECORD_FROM=0))
-        return collections.Counter(map(int, recorded.read_text().split()))
+            "record_growths.c", RECORD_GROWTHS=record_file, RECORD_FROM=0))
+        return collections.Counter(map(int, record_file.read_text().split()))
 
     def assert_lines_only(self, orders, line, *options):
         """After these orders the packet has as many allocations each time as a reading has."""
@@ -157,29 +157,32 @@ class OutputLineAllocationsTest(AllocationsTest):
 
     def test_a_line_of_readings_begins_with_128_bytes_and_is_doubled(self):
         """The longest line is a reading of A5-08-03 at -255 dBm."""
-        longest = serial_script_lines(
+        longest_packet_line = serial_script_lines(
             telegram_packet(0xA5, bytes.fromhex("65A7010B"), DEVICE_ID, 0, radio_optional_data(3, BROADCAST_ID, 255))
         )
         for orders, packet_line, length, buffers in (
             (ADD_ORDER, READING_PACKET_LINE, 105, [128]),
-            ("add 01800ABC A5-08-03\n", longest, 276, [128, 256, 512]),
+            ("add 01800ABC A5-08-03\n", longest_packet_line, 276, [128, 256, 512]),
         ):
             with self.subTest(length=length):
-                line = decoded_text(self.run_replay(script=orders + packet_line).stdout).splitlines(keepends=True)[-1]
-                few, more = (self.allocation_sizes(orders + times * packet_line) for times in (1, 2))
-                self.assertEqual((len(line), sorted((more - few).elements())), (length, buffers))
+                line_sizes = decoded_text(self.run_replay(script=orders
+                                                          + packet_line).stdout).splitlines(keepends=True)[-1]
+                sizes_of_one_packet, sizes_of_two_packets = (self.allocation_sizes(orders + repetitions * packet_line)
+                                                             for repetitions in (1, 2))
+                self.assertEqual((len(line_sizes), sorted((sizes_of_two_packets - sizes_of_one_packet).elements())),
+                                 (length, buffers))
 
     def test_packets_of_a_device_that_was_taught_in_over_the_air(self):
         self.assert_lines_only(WINDOW_ORDERS["on"] + TEACH_IN_1BS, READING_PACKET_LINE)
 
     def test_teach_ins_that_are_refused(self):
-        kinds = {"unsupported": UNSUPPORTED_QUERY_4BS, "bare": TEACH_IN_4BS_WITHOUT_EEP}
-        kinds |= {"universal_unsupported": UTE_UNSUPPORTED_QUERY, "not_used": UTE_NOT_USED}
-        asked = self.file_registry_options()
+        telegram_by_kind = {"unsupported": UNSUPPORTED_QUERY_4BS, "bare": TEACH_IN_4BS_WITHOUT_EEP}
+        telegram_by_kind |= {"universal_unsupported": UTE_UNSUPPORTED_QUERY, "not_used": UTE_NOT_USED}
+        registry_options = self.file_registry_options()
         for mode, window in WINDOW_ORDERS.items():
-            for kind, line in kinds.items():
+            for kind, line in telegram_by_kind.items():
                 with self.subTest(mode=mode, kind=kind):
-                    self.assert_lines_only(window, line, *asked)
+                    self.assert_lines_only(window, line, *registry_options)
 
 
 class TeachInAllocationsTest(AllocationsTest):
@@ -219,31 +222,33 @@ class TeachInAllocationsTest(AllocationsTest):
                 self.assertEqual(output.count('"result":"deleted"'), 50)
 
     def test_each_deletion_of_a_device_that_is_not_learned_asks_the_database(self):
-        line, made = self.allocations_of_reading(), self.allocations_by_packet(WINDOW_ORDERS["on"], UTE_DELETION)
-        self.assertEqual([growths for growths in made if growths <= line], [], f"{made}, and a line has {line}")
+        line, counts = self.allocations_of_reading(), self.allocations_by_packet(WINDOW_ORDERS["on"], UTE_DELETION)
+        self.assertEqual([growths for growths in counts if growths <= line], [], f"{counts}, and a line has {line}")
 
     def test_a_device_that_was_deleted_over_the_air_is_not_looked_up(self):
         deletions = WINDOW_ORDERS["answer"] + 50 * (UTE_QUERY + UTE_DELETION)
         self.assert_equal_allocations(deletions, deletions + 1000 * READING_PACKET_LINE)
 
 
-def packet_with_wrong_crc(good):
+def packet_with_wrong_crc(valid_packet):
     """A packet with a wrong CRC."""
-    return good[:-1] + bytes([good[-1] ^ 1])
+    return valid_packet[:-1] + bytes([valid_packet[-1] ^ 1])
 
 
 class InputsWithoutAllocationsTest(AllocationsTest):
     """Bytes and orders that need no memory after the start: about 100,000 bytes of each kind."""
 
-    def assert_no_allocations(self, script, ignored, mode="closed"):
+    def assert_no_allocations(self, script, ignored_count, mode="closed"):
         """A run on this script has only the allocations of its start. If a packet follows, this many packets are
         ignored, and the mode is this one. The `learn` orders of the script are done.
 
         The packet comes after 01 and 65,791 zeros, so that a false header does not take it for its data."""
         self.assert_equal_allocations("", script)
-        rest = serial_script_lines(b"\x01" + bytes(65_791) + telegram_packet(0xD5, b"\x09", DEVICE_ID)) + "status\n"
-        done = OK_LINE * sum(line.startswith("learn") for line in script.splitlines())
-        self.assert_run(self.run_replay(script=script + rest), done + status_line(ignored, mode=mode))
+        script_end = serial_script_lines(b"\x01" + bytes(65_791)
+                                         + telegram_packet(0xD5, b"\x09", DEVICE_ID)) + "status\n"
+        learn_answers = OK_LINE * sum(line.startswith("learn") for line in script.splitlines())
+        self.assert_run(self.run_replay(script=script + script_end),
+                        learn_answers + status_line(ignored_count, mode=mode))
 
     def test_random_bytes(self):
         self.assert_no_allocations(serial_script_lines(random.Random(1).randbytes(100_000)), 1)
@@ -303,7 +308,7 @@ class InputsWithoutAllocationsTest(AllocationsTest):
         self.assert_no_allocations(1000 * "learn on\nlearn on answer\nlearn as F6-02-01\nlearn off\n", 1)
 
     def test_orders_that_are_refused_before_the_database_is_asked(self):
-        refused = (
+        error_by_line = (
             ("later", "syntax"),
             (201 * " ", "too_long"),
             ("add FFFFFFFF D5-00-01", "range"),
@@ -314,9 +319,9 @@ class InputsWithoutAllocationsTest(AllocationsTest):
             ("label FFFFFFFF x", "range"),
             ("label 00000001 " + 33 * "0", "range"),
         )
-        script = 1000 * "".join(f"{line}\n" for line, _ in refused)
+        script = 1000 * "".join(f"{line}\n" for line, _ in error_by_line)
         self.assert_equal_allocations("", script)
-        self.assert_run(self.run_replay(script=script), 1000 * "".join(error_line(name) for _, name in refused))
+        self.assert_run(self.run_replay(script=script), 1000 * "".join(error_line(name) for _, name in error_by_line))
 
 
 def error_line(name):
@@ -331,10 +336,10 @@ class OrderAllocationsTest(AllocationsTest):
     TWO_ADDS = "add 00000001 D5-00-01\nadd 00000002 D5-00-01\n"
     LABEL_ORDER = "label 00000001 x\n"
 
-    def assert_allocations(self, wanted, script, line):
+    def assert_allocations(self, expected_count, script, line):
         """After this script the line has this many allocations."""
-        before, after = (self.count_allocations(text)[0] for text in (script, script + line))
-        self.assertEqual(after - before, wanted)
+        count_before, count_after = (self.count_allocations(text)[0] for text in (script, script + line))
+        self.assertEqual(count_after - count_before, expected_count)
 
     def test_a_third_add(self):
         self.assert_allocations(51, self.TWO_ADDS, "add 00000003 D5-00-01\n")

@@ -39,12 +39,12 @@ class LiveInputAndOutputTest(LiveTest):
 
     def test_a_turn_reads_256_bytes_and_answers_whole_lines(self):
         self.write_packet_for_second_turn()
-        self.assert_run(self.run_live(turns=2))
+        self.assert_run(self.run_live(turn_count=2))
         self.assert_file_content(self.answers, ACCEPTED_LINE + READING_LINE)
 
     def test_explanations_come_before_what_a_packet_reports_and_orders_have_none(self):
         self.write_packet_for_second_turn()
-        self.assert_run(self.run_live("--explain", turns=2))
+        self.assert_run(self.run_live("--explain", turn_count=2))
         self.assert_file_content(self.answers, ACCEPTED_LINE + EXPLANATION_LINE + READING_LINE)
 
     def test_one_turn_in_place_of_earlier_answers(self):
@@ -61,7 +61,7 @@ class LiveInputAndOutputTest(LiveTest):
 
     def test_an_order_for_the_module(self):
         self.desk.write_text("base\n")
-        self.assert_run(self.run_live(turns=3))
+        self.assert_run(self.run_live(turn_count=3))
         self.assertEqual(self.line.read_bytes().hex(), READ_BASE_PACKET.hex())
         self.assert_file_content(self.answers, OK_LINE)
 
@@ -86,7 +86,7 @@ class LiveInputAndOutputTest(LiveTest):
         """These are a day, and more than 16 bits count."""
         silent = self.write_file("silent")
         files = {"line": silent, "desk": silent, "answers": "/dev/null"}
-        self.assert_run(self.run_live(turns=864000, **files, env=self.count_calls_environment(),
+        self.assert_run(self.run_live(turn_count=864000, **files, env=self.count_calls_environment(),
                           preexec_fn=limit_processor_time))
         self.assertEqual(self.counted_calls("read"), {"read file": 1728000})
 
@@ -113,13 +113,13 @@ class OpenedPathsTest(LiveTest):
         answers.touch()
         desk.chmod(0o400)
         answers.chmod(0o200)
-        other = {}
+        other_rights = {}
         if os.geteuid() == 0:
             self.work.chmod(0o711)
             for path in (rights, program, line, desk, answers):
                 os.chown(path, 65534, 65534)
-            other = {"user": 65534, "group": 65534, "extra_groups": []}
-        run = self.run_live(program=program, line=line, desk=desk, answers=answers, **other)
+            other_rights = {"user": 65534, "group": 65534, "extra_groups": []}
+        run = self.run_live(program=program, line=line, desk=desk, answers=answers, **other_rights)
         self.assert_run(run)
         answers.chmod(0o600)
         self.assert_file_content(answers, '{"count":0,"type":"list"}\n')
@@ -130,57 +130,59 @@ class WrongPathsTest(LiveTest):
 
     def setUp(self):
         super().setUp()
-        self.none, self.no_folder, self.new = self.work / "none", self.work / "no/folder", self.work / "new"
+        self.missing_path = self.work / "none"
+        self.path_without_folder, self.new_path = self.work / "no/folder", self.work / "new"
         self.database = self.work / "live.db"
         self.line.write_bytes(bytes(300))
         self.desk.write_text("base\n")
 
     def test_serial_lines_that_do_not_open(self):
-        for path in (self.none, self.no_folder, EXISTING_FOLDER, ""):
+        for path in (self.missing_path, self.path_without_folder, EXISTING_FOLDER, ""):
             with self.subTest(path=path):
                 self.answers.write_text(EARLIER_OUTPUT_LINE)
                 self.assert_fault(self.run_live(line=path), "cannot open")
                 self.assert_file_content(self.answers, EARLIER_OUTPUT_LINE)
 
     def test_desks_that_do_not_open(self):
-        for path in (self.none, self.no_folder, ""):
+        for path in (self.missing_path, self.path_without_folder, ""):
             with self.subTest(path=path):
                 self.answers.write_text(EARLIER_OUTPUT_LINE)
                 self.assert_fault(self.run_live(desk=path), "cannot open")
                 self.assert_file_content(self.answers, EARLIER_OUTPUT_LINE)
 
     def test_a_file_of_answers_is_not_made_if_there_is_no_desk(self):
-        self.assert_fault(self.run_live(desk=self.none, answers=self.new), "cannot open")
-        self.assertFalse(self.new.exists())
+        self.assert_fault(self.run_live(desk=self.missing_path, answers=self.new_path), "cannot open")
+        self.assertFalse(self.new_path.exists())
 
     def test_files_of_answers_that_do_not_open(self):
-        for path in (self.no_folder, EXISTING_FOLDER, ""):
+        for path in (self.path_without_folder, EXISTING_FOLDER, ""):
             with self.subTest(path=path):
                 self.assert_fault(self.run_live(answers=path), "cannot open")
 
     def test_a_registry_is_made_before_the_paths_are_opened(self):
-        run = self.run_live("--db", self.database, line=self.none, answers=self.new)
+        run = self.run_live("--db", self.database, line=self.missing_path, answers=self.new_path)
         self.assert_fault(run, "cannot open")
         self.assertIn(b"enogate_device_v2", self.database.read_bytes())
-        self.assertFalse(self.new.exists())
+        self.assertFalse(self.new_path.exists())
         self.assert_run(self.run_live("--db", self.database))
 
     def test_the_serial_line_is_opened_before_a_desk_that_nobody_writes(self):
         pipe = self.work / "pipe"
         os.mkfifo(pipe)
-        self.assert_fault(self.run_live(line=self.none, desk=pipe, answers=self.new), "cannot open")
-        self.assertFalse(self.new.exists())
+        self.assert_fault(self.run_live(line=self.missing_path, desk=pipe, answers=self.new_path), "cannot open")
+        self.assertFalse(self.new_path.exists())
 
     def test_a_registry_that_does_not_open_is_reported_before_the_paths(self):
         database = self.work / "no/folder.db"
-        run = self.run_live("--db", database, line=self.none, desk=self.none, answers=self.new)
+        run = self.run_live("--db", database, line=self.missing_path, desk=self.missing_path, answers=self.new_path)
         self.assert_fault(run, "store")
-        self.assertFalse(self.new.exists())
+        self.assertFalse(self.new_path.exists())
 
     def test_a_bad_base_is_reported_before_all_that_is_opened(self):
-        words = ["--base", "FF800001", "--serial", self.none, "--desk", self.desk, "--out", self.new, "--turns", "1"]
+        words = ["--base", "FF800001", "--serial", self.missing_path, "--desk", self.desk, "--out", self.new_path,
+                 "--turns", "1"]
         self.assert_fault(self.run_program("live", *words, "--db", self.work / "no/folder.db"), "bad base", 2)
-        self.assertFalse(self.new.exists())
+        self.assertFalse(self.new_path.exists())
 
     def test_a_desk_that_cannot_be_read(self):
         self.assert_fault(self.run_live(desk=EXISTING_FOLDER), "read")
@@ -199,13 +201,13 @@ class LiveCommandLineTest(LiveTest):
     """Messages on usage."""
 
     def test_turns_that_are_refused(self):
-        for turns, text in (
+        for turns_text, text in (
             ("0", "0 is not in 1..=4294967295"),
             ("4294967296", "4294967296 is not in 1..=4294967295"),
             ("1x", "invalid value '1x' for '--turns <N>'"),
         ):
-            with self.subTest(turns=turns):
-                self.assert_usage(self.run_live(turns=turns), text)
+            with self.subTest(turns=turns_text):
+                self.assert_usage(self.run_live(turn_count=turns_text), text)
                 self.assertFalse(self.answers.exists())
 
     def test_turns_twice(self):
@@ -223,7 +225,8 @@ class LiveCommandLineTest(LiveTest):
             ("--turns", "  --turns <N>"),
         ):
             with self.subTest(without=name):
-                words = [word for option, value in options.items() if option != name for word in (option, value)]
+                words = [word for option, option_value in options.items() if option != name
+                         for word in (option, option_value)]
                 self.assert_usage(self.run_program("live", *words), text)
 
     def test_a_serial_line_for_a_replay(self):

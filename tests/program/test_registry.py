@@ -122,14 +122,15 @@ class ForeignDatabasesTest(RegistryTest):
         """The database that these statements make is refused, and its file keeps each byte."""
         self.database.unlink(missing_ok=True)
         run_sqlite3(self.database, statements)
-        before = self.database.read_bytes()
+        bytes_before = self.database.read_bytes()
         self.assert_fault(self.replay_with_registry(self.database), fault)
-        self.assertEqual(self.database.read_bytes(), before)
+        self.assertEqual(self.database.read_bytes(), bytes_before)
 
     def test_missing_tables_and_a_later_version(self):
         """Each is refused before the paths of `live` are opened, and left as it is."""
-        none, new = self.work / "none", self.work / "new"
-        paths = ["--base", "FF800000", "--serial", none, "--desk", none, "--out", new, "--turns", "1"]
+        missing_path, new_path = self.work / "none", self.work / "new"
+        paths = ["--base", "FF800000", "--serial", missing_path, "--desk", missing_path, "--out", new_path, "--turns",
+                 "1"]
         for name, statements in (
             ("one", f"{CREATE_VERSION_TABLE}; INSERT INTO enogate_meta VALUES (1, 2);"),
             ("nine", f"{CREATE_VERSION_TABLE}; {CREATE_DEVICE_TABLE_2}; INSERT INTO enogate_meta VALUES (1, 9);"),
@@ -137,23 +138,23 @@ class ForeignDatabasesTest(RegistryTest):
             with self.subTest(database=name):
                 database = self.work / f"{name}.db"
                 run_sqlite3(database, statements)
-                before = run_sqlite3(database, ".dump")
+                dump_before = run_sqlite3(database, ".dump")
                 self.assert_fault(self.replay_with_registry(database), "not a registry")
                 self.assert_fault(self.run_program("live", *paths, "--db", database), "not a registry")
-                self.assertEqual(run_sqlite3(database, ".dump"), before)
+                self.assertEqual(run_sqlite3(database, ".dump"), dump_before)
 
     def test_rows_of_version_2_that_break_the_checks(self):
         """SQLite itself opens no file with such rows."""
-        rest = f"{CREATE_DEVICE_TABLE_2}; INSERT INTO enogate_meta VALUES (1, 2); INSERT INTO enogate_device_v2"
+        statements = f"{CREATE_DEVICE_TABLE_2}; INSERT INTO enogate_meta VALUES (1, 2); INSERT INTO enogate_device_v2"
         for row in INVALID_DEVICE_ROWS:
             with self.subTest(row=row):
-                self.assert_refused("store", f"{WITHOUT_CHECKS_SQL} {rest} VALUES ({row}, '');")
+                self.assert_refused("store", f"{WITHOUT_CHECKS_SQL} {statements} VALUES ({row}, '');")
 
     def test_rows_of_version_1_that_break_the_checks(self):
-        rest = f"{CREATE_DEVICE_TABLE_1}; INSERT INTO enogate_meta VALUES (1, 1); INSERT INTO enogate_device"
+        statements = f"{CREATE_DEVICE_TABLE_1}; INSERT INTO enogate_meta VALUES (1, 1); INSERT INTO enogate_device"
         for row in INVALID_DEVICE_ROWS:
             with self.subTest(row=row):
-                self.assert_refused("store", f"{WITHOUT_CHECKS_SQL} {rest} VALUES ({row});")
+                self.assert_refused("store", f"{WITHOUT_CHECKS_SQL} {statements} VALUES ({row});")
 
     def test_wrong_version_rows(self):
         for rows in ("(2, 2)", "(1, 2), (2, 2)"):
@@ -172,10 +173,10 @@ class ForeignDatabasesTest(RegistryTest):
     def test_the_stock_sqlite3_reads_a_closed_registry(self):
         """It finds exactly the two tables. One device was learned, and got a label. The second one was removed by
         another start."""
-        first = 'add 01800ABC D5-00-01\nadd 00000001 D5-00-01\nlabel 00000001 Door "A"\n'
-        self.replay_with_registry(self.database, first)
+        first_script = 'add 01800ABC D5-00-01\nadd 00000001 D5-00-01\nlabel 00000001 Door "A"\n'
+        self.replay_with_registry(self.database, first_script)
         self.replay_with_registry(self.database, "remove 01800ABC\n")
-        shown = run_sqlite3(
+        query_output = run_sqlite3(
             self.database,
             "SELECT type, name, sql FROM sqlite_schema ORDER BY rowid",
             "SELECT k, version FROM enogate_meta",
@@ -183,7 +184,7 @@ class ForeignDatabasesTest(RegistryTest):
             "PRAGMA integrity_check",
         )
         tables = f"table|enogate_meta|{CREATE_VERSION_TABLE}\ntable|enogate_device_v2|{CREATE_DEVICE_TABLE_2}\n"
-        self.assertEqual(shown, tables + '1|2\n1|13959169|-1|Door "A"\nok\n')
+        self.assertEqual(query_output, tables + '1|2\n1|13959169|-1|Door "A"\nok\n')
 
 
 if __name__ == "__main__":

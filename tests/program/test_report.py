@@ -21,7 +21,7 @@ from oracle.reasons import REASONS_BY_COUNTER
 BASE, PACKETS, STREAMS, DEVICES = 0xFFA1B280, 10_000, 5_200, 100
 # What a report of this day may cost: CPU seconds on a slow machine, and bytes.
 MAX_SECONDS, MAX_MEMORY = 30, 200 << 20
-COUNTERS = re.compile(rb'"(?:ignored|readings|refused|responses|teach)":\d+')
+COUNTERS_PATTERN = re.compile(rb'"(?:ignored|readings|refused|responses|teach)":\d+')
 REPORT = """import sys
 sys.dont_write_bytecode = True
 sys.path.insert(0, sys.argv[1])
@@ -37,14 +37,14 @@ def script_of_a_day(rng, count):
     devices = [(0x01800000 + rng.randrange(1 << 22), random_scripts.random_profile(rng)) for _ in range(DEVICES)]
     lines = [f"add {device:08X} {eep}".encode() for device, eep in devices[:-10]]
     lines += [f"label {device:08X} Label of {device}".encode() for device, _ in devices[:30]] + [b"list", b"status"]
-    for number in range(count):
+    for device_number in range(count):
         packets = {0: random_scripts.random_response, 1: random_scripts.random_packet}
         stream = packets.get(rng.randrange(20), random_telegram_of(devices))(rng)
         lines += serial_script_lines(stream).encode().splitlines()
-        if number % 50 == 0:
+        if device_number % 50 == 0:
             orders = random_scripts.random_actuator_orders(rng, devices)
             lines += [b"status", random_scripts.random_order(rng, devices, 0.3), *orders, b"status"]
-        if number % 1000 == 999:
+        if device_number % 1000 == 999:
             lines += [b"learn on", b"list", b"base"]
     return b"".join(line + b"\n" for line in lines)
 
@@ -88,16 +88,17 @@ class ReportTest(ProgramTest):
         self.assertEqual(decoded_text(run.stderr), "")
         return run.returncode, decoded_text(run.stdout)
 
-    def assert_same(self, path, found):
+    def assert_same(self, path, report_files):
         """The replay writes all expected lines."""
-        count = found["expected.lines"].count(b"\n")
+        count = report_files["expected.lines"].count(b"\n")
         self.assertEqual(self.replay(path), (0, f"{count} lines are the same\n"))
 
-    def assert_only_more(self, lines, found):
+    def assert_only_more(self, lines, report_files):
         """The expected lines are all of these, in their sequence, with other counters, and only answers besides."""
-        expected = (COUNTERS.sub(b"", line) for line in found["expected.lines"].splitlines(keepends=True))
-        missing = [line for line in lines if COUNTERS.sub(b"", line) not in expected]
-        self.assertEqual(missing[:1], [])
+        expected_lines = (COUNTERS_PATTERN.sub(b"", line)
+                          for line in report_files["expected.lines"].splitlines(keepends=True))
+        missing_lines = [line for line in lines if COUNTERS_PATTERN.sub(b"", line) not in expected_lines]
+        self.assertEqual(missing_lines[:1], [])
 
 
 class DayTest(ReportTest):
@@ -115,43 +116,46 @@ class DayTest(ReportTest):
         lines = self.lines_of_a_day()
         reasons = [json.loads(line)["why"] for line in lines if b'"type":"packet"' in line]
         self.assertGreaterEqual(len(reasons), PACKETS)
-        self.assertEqual(set(reasons), {one for some in REASONS_BY_COUNTER.values() for one in some} - {"full"})
-        before = resource.getrusage(resource.RUSAGE_CHILDREN)
-        path, found = self.report(lines)
-        self.assert_same(path, found)
-        after = resource.getrusage(resource.RUSAGE_CHILDREN)
-        self.assertLess(after.ru_utime - before.ru_utime, MAX_SECONDS)
-        self.assertLess(after.ru_maxrss << 10, MAX_MEMORY)
-        self.assertEqual(found["lines.txt"], b"".join(lines))
-        self.assertIn(b"missing lines: 1\n", found["README.txt"])
-        self.assert_only_more(lines, found)
+        self.assertEqual(set(reasons), {reason for reasons_of_counter in REASONS_BY_COUNTER.values()
+                                        for reason in reasons_of_counter} - {"full"})
+        usage_before = resource.getrusage(resource.RUSAGE_CHILDREN)
+        path, report_files = self.report(lines)
+        self.assert_same(path, report_files)
+        usage_after = resource.getrusage(resource.RUSAGE_CHILDREN)
+        self.assertLess(usage_after.ru_utime - usage_before.ru_utime, MAX_SECONDS)
+        self.assertLess(usage_after.ru_maxrss << 10, MAX_MEMORY)
+        self.assertEqual(report_files["lines.txt"], b"".join(lines))
+        self.assertIn(b"missing lines: 1\n", report_files["README.txt"])
+        self.assert_only_more(lines, report_files)
         with self.subTest("anonymous"):
-            path, other = self.report(lines, "--anonymous")
-            self.assert_same(path, other)
-            labels = found["script.txt"].count(b"\nlabel ")
-            self.assertEqual(other["expected.lines"].count(b"\n"), found["expected.lines"].count(b"\n") - labels)
+            path, anonymous_files = self.report(lines, "--anonymous")
+            self.assert_same(path, anonymous_files)
+            labels = report_files["script.txt"].count(b"\nlabel ")
+            self.assertEqual(anonymous_files["expected.lines"].count(b"\n"),
+                             report_files["expected.lines"].count(b"\n") - labels)
             # Zeros are also the data of packets, and the broadcast ID is before a signal strength.
             ids = set(re.findall(rb'"(?:id|dest)":"(?!0{7}|F{7})(.{8})"', b"".join(lines)))
-            for name, content in other.items():
-                self.assertEqual([one for one in ids | {b"LABEL OF", b"FFA1B280"} if one in content.upper()], [], name)
+            for name, content in anonymous_files.items():
+                self.assertEqual([reason for reason in ids | {b"LABEL OF", b"FFA1B280"} if reason in content.upper()],
+                                 [], name)
 
     def test_from_the_middle(self):
         """Whatever is missing before and in the lines."""
         lines = self.lines_of_a_day()
         for _ in range(3):
-            begin, end = sorted(self.rng.sample(range(len(lines)), 2))
-            path, found = self.report(lines[begin:end] + [b"{"] + lines[end + 100:])
-            self.assert_same(path, found)
+            first_line, last_line = sorted(self.rng.sample(range(len(lines)), 2))
+            path, report_files = self.report(lines[first_line:last_line] + [b"{"] + lines[last_line + 100:])
+            self.assert_same(path, report_files)
 
     def test_a_changed_report(self):
-        path, found = self.report(self.lines_of(script_of_a_day(self.rng, 100)))
-        self.assert_same(path, found)
-        text = found["script.txt"].replace(b"09", b"08", 1)
+        path, report_files = self.report(self.lines_of(script_of_a_day(self.rng, 100)))
+        self.assert_same(path, report_files)
+        text = report_files["script.txt"].replace(b"09", b"08", 1)
         with tarfile.open(path, "w:gz") as archive:
-            for name, content in {**found, "script.txt": text}.items():
-                info = tarfile.TarInfo(f"enogate-report-hall-2026-12-01-041500/{name}")
-                info.size = len(content)
-                archive.addfile(info, io.BytesIO(content))
+            for name, content in {**report_files, "script.txt": text}.items():
+                member_info = tarfile.TarInfo(f"enogate-report-hall-2026-12-01-041500/{name}")
+                member_info.size = len(content)
+                archive.addfile(member_info, io.BytesIO(content))
         status, out = self.replay(path)
         self.assertEqual(status, 1)
         self.assertRegex(out, "^line [0-9]+ of expected.lines is b'")
@@ -164,16 +168,16 @@ class FailedInputsTest(ReportTest):
         query = telegram_packet(0xD4, bytes.fromhex("A00146001201D2"), 0x01800ABD)
         text = ADD_ORDER + serial_script_lines(contact) + "learn on\n" + serial_script_lines(query + contact)
         text += "status\nlist\n"
-        found = set()
-        for number in range(count_calls(self.libraries, "growth", text)):
-            env = self.preload_environment(REFUSE_CALL_SOURCE, REFUSE_KIND="growth", REFUSE_NUMBER=number + 1)
-            found.add(tuple(self.lines_of(text, env=env)))
-        for lines in found:
+        failed_texts = set()
+        for call_number in range(count_calls(self.libraries, "growth", text)):
+            env = self.preload_environment(REFUSE_CALL_SOURCE, REFUSE_KIND="growth", REFUSE_NUMBER=call_number + 1)
+            failed_texts.add(tuple(self.lines_of(text, env=env)))
+        for lines in failed_texts:
             path, contents = self.report(lines)
             self.assert_same(path, contents)
             failed = sum(b'"why":"refused"' in line or b'"error":' in line for line in lines)
             self.assertIn(f"no packet line: {failed}\n", contents["README.txt"].decode())
-        self.assertTrue(any(b'"why":"refused"' in line for lines in found for line in lines))
+        self.assertTrue(any(b'"why":"refused"' in line for lines in failed_texts for line in lines))
 
 
 if __name__ == "__main__":

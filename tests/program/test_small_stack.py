@@ -16,10 +16,10 @@ def packets_of_each_type():
     after it, which is all zeros. The longest packet with a wrong check comes first: all its bytes are skipped at
     once."""
     contact = telegram_packet(0xD5, b"\x09", 0x01800ABC)
-    longest = [packet(kind, bytes(65535), bytes(255)) for kind in range(5)]
-    stream = longest[0][:-1] + b"\x01"
+    longest_packets = [packet(kind, bytes(65535), bytes(255)) for kind in range(5)]
+    stream = longest_packets[0][:-1] + b"\x01"
     for kind in range(256):
-        stream += packet(kind, contact[6:13], contact[13:20]) + b"".join(longest[kind : kind + 1])
+        stream += packet(kind, contact[6:13], contact[13:20]) + b"".join(longest_packets[kind : kind + 1])
     return f"add 01800ABC D5-00-01\n{serial_script_lines(stream)}status\n"
 
 
@@ -53,29 +53,31 @@ class SmallStackTest(ProgramTest):
         run = self.run_replay(*self.in_file, script=packets_of_each_type(), preexec_fn=limit_memory)
         self.assert_run(run, EXPECTED_OUTPUT)
 
-    def assert_golden_session(self, name, part, *options, limit):
+    def assert_golden_session(self, name, session_part, *options, limit_resource):
         """The program writes this part of the golden session."""
-        row = session.read_session(name)
+        golden_session = session.read_session(name)
         run = self.run_replay(
-            *options, script=self.write_file("row", session.text_of_session(row, "script")), preexec_fn=limit
+            *options, script=self.write_file("row", session.text_of_session(golden_session, "script")),
+            preexec_fn=limit_resource
         )
-        self.assert_run(run, session.text_of_session(row, part).decode())
+        self.assert_run(run, session.text_of_session(golden_session, session_part).decode())
 
     def test_every_teach_in_telegram_in_every_mode(self):
-        self.assert_golden_session("verdicts", "plain", limit=limit_stack)
-        self.assert_golden_session("verdicts", "plain", *self.in_file, limit=limit_memory)
+        self.assert_golden_session("verdicts", "plain", limit_resource=limit_stack)
+        self.assert_golden_session("verdicts", "plain", *self.in_file, limit_resource=limit_memory)
 
     def test_every_teach_in_telegram_in_every_mode_with_explanations(self):
-        self.assert_golden_session("verdicts", "explained", "--explain", limit=limit_stack)
-        self.assert_golden_session("verdicts", "explained", "--explain", *self.in_file, limit=limit_memory)
+        self.assert_golden_session("verdicts", "explained", "--explain", limit_resource=limit_stack)
+        self.assert_golden_session("verdicts", "explained", "--explain", *self.in_file, limit_resource=limit_memory)
 
     def test_every_teach_in_telegram_in_every_mode_with_1000_devices(self):
-        self.assert_golden_session("verdicts-full", "plain", limit=limit_stack)
-        self.assert_golden_session("verdicts-full", "plain", *self.in_file, limit=limit_memory)
+        self.assert_golden_session("verdicts-full", "plain", limit_resource=limit_stack)
+        self.assert_golden_session("verdicts-full", "plain", *self.in_file, limit_resource=limit_memory)
 
     def test_every_teach_in_telegram_in_every_mode_with_1000_devices_and_explanations(self):
-        self.assert_golden_session("verdicts-full", "explained", "--explain", limit=limit_stack)
-        self.assert_golden_session("verdicts-full", "explained", "--explain", *self.in_file, limit=limit_memory)
+        self.assert_golden_session("verdicts-full", "explained", "--explain", limit_resource=limit_stack)
+        self.assert_golden_session("verdicts-full", "explained", "--explain", *self.in_file,
+                                   limit_resource=limit_memory)
 
 
 class ThousandDevicesTest(ProgramTest):
@@ -100,9 +102,9 @@ class ThousandDevicesTest(ProgramTest):
         self.assert_run(run, self.ANSWERS)
         labels = {sender: 32 * "\\" for sender in range(1000)}
         script = "".join(f"label {sender:08X} {label}\n" for sender, label in labels.items()) + "list\n"
-        listed = device_lines(dict.fromkeys(labels, ("D5-00-01", None)), labels)
+        list_answer = device_lines(dict.fromkeys(labels, ("D5-00-01", None)), labels)
         run = self.run_replay(*in_file, script=script, preexec_fn=limit_memory)
-        self.assert_run(run, 1000 * OK_LINE + listed)
+        self.assert_run(run, 1000 * OK_LINE + list_answer)
 
 
 if __name__ == "__main__":

@@ -48,8 +48,8 @@ class ProgramTest(unittest.TestCase):
 
     def counted_calls(self, kind=""):
         """How many calls that run has made, by those of the names in the library that begin like this."""
-        pairs = (line.rsplit(" ", 1) for line in (self.work / "calls").read_text().splitlines())
-        return {name: int(count) for name, count in pairs if name.startswith(kind)}
+        names_and_counts = (line.rsplit(" ", 1) for line in (self.work / "calls").read_text().splitlines())
+        return {name: int(count) for name, count in names_and_counts if name.startswith(kind)}
 
     def run_program(self, *words, script=EMPTY_INPUT, program=PROGRAM, **settings):
         """Runs the program, or a copy of it. Its standard input is the file `script`, or a new file with this text. The
@@ -62,14 +62,15 @@ class ProgramTest(unittest.TestCase):
     def run_replay(self, *options, base="FF800000", script=EMPTY_INPUT, **settings):
         return self.run_program("replay", "--base", base, *options, script=script, **settings)
 
-    def assert_text_equal(self, found, wanted):
+    def assert_text_equal(self, text, expected_text):
         """The texts are equal. If they are not, the message shows a few lines, from the one before the first
         difference."""
-        if found != wanted:
-            lines, wanted_lines = found.splitlines(keepends=True), wanted.splitlines(keepends=True)
-            start = max(len(os.path.commonprefix([lines, wanted_lines])) - 1, 0)
-            shown, wanted_shown = ("".join(some[start : start + 10]) for some in (lines, wanted_lines))
-            self.assertEqual(shown, wanted_shown, f"from line {start + 1}")
+        if text != expected_text:
+            lines, expected_lines = text.splitlines(keepends=True), expected_text.splitlines(keepends=True)
+            start = max(len(os.path.commonprefix([lines, expected_lines])) - 1, 0)
+            shown_text, expected_shown_text = ("".join(some_lines[start : start + 10])
+                                               for some_lines in (lines, expected_lines))
+            self.assertEqual(shown_text, expected_shown_text, f"from line {start + 1}")
 
     def assert_run(self, run, output="", error="", status=0):
         """The run printed exactly these texts to standard output and standard error, and ended with this status."""
@@ -101,14 +102,14 @@ class LiveTest(ProgramTest):
         super().setUp()
         self.line, self.desk, self.answers = self.write_file("line"), self.write_file("desk"), self.work / "answers"
 
-    def live_command(self, *options, turns=1, line=None, desk=None, answers=None):
+    def live_command(self, *options, turn_count=1, line=None, desk=None, answers=None):
         """The command line of `live` with these options. The defaults are the files of the test."""
         line, desk = self.line if line is None else line, self.desk if desk is None else desk
         answers = self.answers if answers is None else answers
         words = ["live", "--base", "FF800000", "--serial", line, "--desk", desk, "--out", answers]
-        return [*words, "--turns", str(turns), *options]
+        return [*words, "--turns", str(turn_count), *options]
 
-    def run_live(self, *options, turns=1, line=None, desk=None, answers=None, **settings):
+    def run_live(self, *options, turn_count=1, line=None, desk=None, answers=None, **settings):
         """Runs `live` to its end."""
-        words = self.live_command(*options, turns=turns, line=line, desk=desk, answers=answers)
+        words = self.live_command(*options, turn_count=turn_count, line=line, desk=desk, answers=answers)
         return self.run_program(*words, **settings)

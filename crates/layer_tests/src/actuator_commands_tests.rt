@@ -78,12 +78,15 @@ const ORDER_PACKETS: [OrderPackets; 5] = [
 #[test]
 fn orders_have_given_packets(rt: HostRuntime) -> Result<(), Fail> {
     for (profile, base, orders) in ORDER_PACKETS {
-        for case in orders.split('|') {
-            let (line, packet) = case.split_once(" = ").ok_or("no packet")?;
-            let mut out = ArrayVec::<u8, 64>::new();
-            write(&telegram(line.as_bytes(), profile, base)??, &mut out)?;
-            let found = hex::encode(rt.alloc(), out.as_slice())?;
-            assert_eq!(rt; found.as_str(), packet, "{line}");
+        for order_and_packet in orders.split('|') {
+            let (line, packet) = order_and_packet.split_once(" = ").ok_or("no packet")?;
+            let mut packet_bytes = ArrayVec::<u8, 64>::new();
+            write(
+                &telegram(line.as_bytes(), profile, base)??,
+                &mut packet_bytes,
+            )?;
+            let packet_digits = hex::encode(rt.alloc(), packet_bytes.as_slice())?;
+            assert_eq!(rt; packet_digits.as_str(), packet, "{line}");
         }
     }
     Ok(())
@@ -132,14 +135,14 @@ const RECIPIENTS_OF_ORDERS: &str = "\
 
 #[test]
 fn orders_have_given_recipients(rt: HostRuntime) -> Result<(), Fail> {
-    for case in RECIPIENTS_OF_ORDERS.split('|') {
-        let (line, device) = case.split_once(" = ").ok_or("no device")?;
+    for order_and_recipient in RECIPIENTS_OF_ORDERS.split('|') {
+        let (line, device) = order_and_recipient.split_once(" = ").ok_or("no device")?;
         let order = parse(line.as_bytes())?;
-        let found = (order.sends(), order.recipient_id());
+        let sends_and_recipient = (order.sends(), order.recipient_id());
         assert_eq!(rt;
-            found,
+            sends_and_recipient,
             (device != "none", id_of(device.as_bytes())),
-            "{case}"
+            "{order_and_recipient}"
         );
     }
     Ok(())

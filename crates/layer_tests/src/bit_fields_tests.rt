@@ -3,7 +3,7 @@ use bit_fields::{get, put};
 
 #[test]
 fn fields_read(rt: HostRuntime) {
-    for (row, (found, wanted)) in [
+    for (case_number, (field_bits, expected_bits)) in [
         (get::<4, 13, 11>(&[0x08, 0x28, 0x46, 0x80]), 70),
         (get::<4, 28, 1>(&[0x00, 0x00, 0x00, 0x08]), 1),
         (get::<2, 15, 1>(&[0xFF, 0xFE]), 0),
@@ -18,7 +18,7 @@ fn fields_read(rt: HostRuntime) {
     .into_iter()
     .enumerate()
     {
-        assert_eq!(rt; found, wanted, "row {row}");
+        assert_eq!(rt; field_bits, expected_bits, "row {case_number}");
     }
 }
 
@@ -26,22 +26,22 @@ fn fields_read(rt: HostRuntime) {
 fn fields_written(rt: HostRuntime) {
     let mut byte = [0x91];
     put::<1, 4, 3>(&mut byte, 5);
-    let mut whole = [0; 4];
-    put::<4, 0, 32>(&mut whole, 4_294_967_295);
-    let mut across = [0xFF; 4];
-    put::<4, 6, 10>(&mut across, 0);
-    let mut last = [0x00, 0x00];
-    put::<2, 15, 1>(&mut last, 1);
-    let mut five = [0xFF; 5];
-    put::<5, 4, 32>(&mut five, 0x1234_5678);
+    let mut whole_bytes = [0; 4];
+    put::<4, 0, 32>(&mut whole_bytes, 4_294_967_295);
+    let mut across_bytes = [0xFF; 4];
+    put::<4, 6, 10>(&mut across_bytes, 0);
+    let mut last_bits = [0x00, 0x00];
+    put::<2, 15, 1>(&mut last_bits, 1);
+    let mut five_bytes = [0xFF; 5];
+    put::<5, 4, 32>(&mut five_bytes, 0x1234_5678);
     let cases: [(&[u8], &[u8]); 5] = [
         (&byte, &[0x9B]),
-        (&whole, &[0xFF; 4]),
-        (&across, &[0xFC, 0x00, 0xFF, 0xFF]),
-        (&last, &[0x00, 0x01]),
-        (&five, &[0xF1, 0x23, 0x45, 0x67, 0x8F]),
+        (&whole_bytes, &[0xFF; 4]),
+        (&across_bytes, &[0xFC, 0x00, 0xFF, 0xFF]),
+        (&last_bits, &[0x00, 0x01]),
+        (&five_bytes, &[0xF1, 0x23, 0x45, 0x67, 0x8F]),
     ];
-    for (row, (found, wanted)) in cases.into_iter().enumerate() {
-        assert_eq!(rt; found, wanted, "row {row}");
+    for (case_number, (bytes, expected_bytes)) in cases.into_iter().enumerate() {
+        assert_eq!(rt; bytes, expected_bytes, "row {case_number}");
     }
 }

@@ -10,15 +10,15 @@ use std::io::{Read, Write};
 // that is asked for.
 #[derive(Drop)]
 struct FailsOnce {
-    calls: usize,
+    call_count: usize,
 }
 
 impl FailsOnce {
     fn count_call_and_answer(&mut self, length: usize) -> io::Result<usize>
         ensures { IfOk result (λ n. n ≡ length) }
     {
-        self.calls = self.calls.saturating_add(1);
-        if self.calls == 1 {
+        self.call_count = self.call_count.saturating_add(1);
+        if self.call_count == 1 {
             return Err(io::Error::from(io::ErrorKind::Interrupted));
         }
         Ok(length)
@@ -43,21 +43,21 @@ impl Write for FailsOnce {
 
 #[test]
 fn one_call_for_each_read(rt: HostRuntime) {
-    let mut reader = FailsOnce { calls: 0 };
+    let mut reader = FailsOnce { call_count: 0 };
     let mut source = OverRead::new(&mut reader);
     let mut buffer = [0u8; 256];
     assert!(rt; source.read(&mut buffer).is_err());
     assert_eq!(rt; source.read(&mut buffer).ok(), Some(256));
     drop(source);
-    assert_eq!(rt; reader.calls, 2);
+    assert_eq!(rt; reader.call_count, 2);
 }
 
 #[test]
 fn one_call_for_each_write(rt: HostRuntime) {
-    let mut writer = FailsOnce { calls: 0 };
+    let mut writer = FailsOnce { call_count: 0 };
     let mut sink = OverWrite::new(&mut writer);
     assert!(rt; sink.write(b"a line of text\n").is_err());
     assert_eq!(rt; sink.write(b"a line of text\n").ok(), Some(15));
     drop(sink);
-    assert_eq!(rt; writer.calls, 2);
+    assert_eq!(rt; writer.call_count, 2);
 }

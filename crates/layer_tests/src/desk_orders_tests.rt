@@ -102,8 +102,11 @@ const LINES_AND_ORDERS: [(&str, Order); 20] = [
 
 #[test]
 fn lines_parse_as_orders(rt: HostRuntime) {
-    for (line, wanted) in &LINES_AND_ORDERS {
-        assert!(rt; parse(line.as_bytes()).as_ref() == Ok(wanted), "{line}");
+    for (line, expected_order) in &LINES_AND_ORDERS {
+        assert!(rt;
+            parse(line.as_bytes()).as_ref() == Ok(expected_order),
+            "{line}"
+        );
     }
     orders_are_spelled();
 }
@@ -132,8 +135,8 @@ const REJECTED_LINES: [(&str, OrderFault); 3] = [
 
 #[test]
 fn invalid_lines_are_rejected(rt: HostRuntime) {
-    for (line, wanted) in REJECTED_LINES {
-        assert_eq!(rt; parse(line.as_bytes()), Err(wanted), "{line}");
+    for (line, expected_fault) in REJECTED_LINES {
+        assert_eq!(rt; parse(line.as_bytes()), Err(expected_fault), "{line}");
     }
     lines_have_no_other_fault();
 }
@@ -147,8 +150,8 @@ const TEXTS_AND_IDS: [(&str, Option<u32>); 4] = [
 
 #[test]
 fn texts_parse_as_ids(rt: HostRuntime) {
-    for (digits, wanted) in TEXTS_AND_IDS {
-        assert_eq!(rt; id_of(digits.as_bytes()), wanted, "{digits}");
+    for (digits, expected_id) in TEXTS_AND_IDS {
+        assert_eq!(rt; id_of(digits.as_bytes()), expected_id, "{digits}");
     }
     ids_are_spelled();
 }

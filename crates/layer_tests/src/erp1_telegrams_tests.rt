@@ -47,11 +47,20 @@ fn contact_telegram_is_read_and_written(rt: HostRuntime) -> Result<(), Fail> {
         _ => None,
     };
     assert_eq!(rt; byte, Some(0x09));
-    let made = Telegram::with_contents(Contents::OneBs([0x09]), SENDER, 0, BROADCAST, Some(0x2D));
-    assert_eq!(rt; telegram_fields(&made), telegram_fields(&telegram));
-    let mut out = ArrayVec::<u8, 64>::new();
-    write(&made, &mut out)?;
-    assert_eq!(rt; out.as_slice(), SENT_CONTACT_PACKET.as_slice());
+    let built_telegram = Telegram::with_contents(
+        Contents::OneBs([0x09]),
+        SENDER,
+        0,
+        BROADCAST,
+        Some(0x2D),
+    );
+    assert_eq!(rt;
+        telegram_fields(&built_telegram),
+        telegram_fields(&telegram)
+    );
+    let mut packet_bytes = ArrayVec::<u8, 64>::new();
+    write(&built_telegram, &mut packet_bytes)?;
+    assert_eq!(rt; packet_bytes.as_slice(), SENT_CONTACT_PACKET.as_slice());
     Ok(())
 }
 
@@ -65,13 +74,17 @@ const PACKETS_WITHOUT_TELEGRAM: [(u8, &[u8], TelegramFault); 4] = [
 
 #[test]
 fn telegram_faults(rt: HostRuntime) {
-    for (row, (kind, body, why)) in PACKETS_WITHOUT_TELEGRAM.iter().enumerate() {
+    for (case_number, (kind, body, expected_fault)) in PACKETS_WITHOUT_TELEGRAM.iter().enumerate() {
         let packet = PacketRef {
             kind: *kind,
             body,
             opt: &[],
         };
-        assert_eq!(rt; read(&packet).err(), Some(*why), "row {row}");
+        assert_eq!(rt;
+            read(&packet).err(),
+            Some(*expected_fault),
+            "row {case_number}"
+        );
     }
     let other_kind = Telegram::new(0x30, &[], SENDER, 0, BROADCAST, None).err();
     assert_eq!(rt; other_kind, Some(TelegramFault::OtherKind));
@@ -93,9 +106,9 @@ fn payload_lengths_are_limited(rt: HostRuntime) {
     for (rorg, shortest, longest) in PAYLOAD_LENGTH_LIMITS {
         for len in 0..16_usize {
             let payload = zeros.get(..len).unwrap_or(&[]);
-            let made = Telegram::new(rorg, payload, SENDER, 0, BROADCAST, None);
-            let fits = shortest <= len && len <= longest;
-            assert_eq!(rt; made.is_ok(), fits, "{rorg} {len}");
+            let built_telegram = Telegram::new(rorg, payload, SENDER, 0, BROADCAST, None);
+            let is_within_limits = shortest <= len && len <= longest;
+            assert_eq!(rt; built_telegram.is_ok(), is_within_limits, "{rorg} {len}");
         }
     }
 }
@@ -104,23 +117,23 @@ fn payload_lengths_are_limited(rt: HostRuntime) {
 #[test]
 fn packet_needs_buffer_capacity(rt: HostRuntime) -> Result<(), Fail> {
     let telegram = Telegram::new(0xD5, &[0x09], SENDER, 0, BROADCAST, Some(0x2D))?;
-    let mut out = ArrayVec::<u8, 64>::new();
-    out.try_extend_from_slice(&[7; 44])?;
-    let done = write(&telegram, &mut out);
+    let mut buffer = ArrayVec::<u8, 64>::new();
+    buffer.try_extend_from_slice(&[7; 44])?;
+    let write_result = write(&telegram, &mut buffer);
     assert_eq!(rt;
-        (done, out.as_slice()),
+        (write_result, buffer.as_slice()),
         (Err(PacketFault::NoRoom), [7; 44].as_slice())
     );
-    out.truncate(43);
-    let done = write(&telegram, &mut out);
+    buffer.truncate(43);
+    let write_result = write(&telegram, &mut buffer);
     assert_eq!(rt;
-        (done, out.split_at(43)),
+        (write_result, buffer.split_at(43)),
         (Ok(()), ([7; 43].as_slice(), SENT_CONTACT_PACKET.as_slice()))
     );
-    out.clear();
+    buffer.clear();
     let telegram = Telegram::new(0xD2, &[7; 14], SENDER, 0, BROADCAST, None)?;
-    let done = write(&telegram, &mut out);
-    assert_eq!(rt; (done, out.len()), (Ok(()), 34));
+    let write_result = write(&telegram, &mut buffer);
+    assert_eq!(rt; (write_result, buffer.len()), (Ok(()), 34));
     Ok(())
 }
 
@@ -145,8 +158,8 @@ const BASE_IDS: [(u32, bool); 9] = [
 
 #[test]
 fn base_ids(rt: HostRuntime) {
-    for (id, wanted) in BASE_IDS {
-        assert_eq!(rt; is_base_id(id), wanted, "{id}");
+    for (id, is_base) in BASE_IDS {
+        assert_eq!(rt; is_base_id(id), is_base, "{id}");
     }
 }
 
@@ -163,8 +176,8 @@ const GATEWAY_IDS: [(u32, u32, bool); 7] = [
 
 #[test]
 fn gateway_ids(rt: HostRuntime) {
-    for (base, id, wanted) in GATEWAY_IDS {
-        assert_eq!(rt; is_gateway_id(base, id), wanted, "{base} {id}");
+    for (base, id, is_of_gateway) in GATEWAY_IDS {
+        assert_eq!(rt; is_gateway_id(base, id), is_of_gateway, "{base} {id}");
     }
 }
 
@@ -178,10 +191,10 @@ const FILTER_CASES: [(u32, u32, Option<FilterReason>); 4] = [
 
 #[test]
 fn filtered_telegrams(rt: HostRuntime) -> Result<(), Fail> {
-    for (sender, dest, wanted) in FILTER_CASES {
+    for (sender, dest, expected_reason) in FILTER_CASES {
         let telegram = Telegram::new(0xD5, &[0x09], sender, 0, dest, None)?;
-        let found = filter_reason(0xFF80_0000, &telegram);
-        assert_eq!(rt; found, wanted, "{sender} {dest}");
+        let reason = filter_reason(0xFF80_0000, &telegram);
+        assert_eq!(rt; reason, expected_reason, "{sender} {dest}");
     }
     Ok(())
 }

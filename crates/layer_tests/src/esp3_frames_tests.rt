@@ -39,8 +39,8 @@ const CRC_CASES: [(&[u8], u8); 4] = [
 
 #[test]
 fn crcs_of_bytes(rt: HostRuntime) {
-    for (bytes, wanted) in CRC_CASES {
-        assert_eq!(rt; check8(bytes), wanted, "{bytes:?}");
+    for (bytes, expected_crc) in CRC_CASES {
+        assert_eq!(rt; check8(bytes), expected_crc, "{bytes:?}");
     }
     assert_eq!(rt; check8_next(0x00, 0x08), 0x38);
 }
@@ -63,8 +63,12 @@ const CRC_BETWEEN_CASES: [(u8, u8, usize, u8); 10] = [
 
 #[test]
 fn crcs_between_prefixes(rt: HostRuntime) {
-    for (before, all, len, wanted) in CRC_BETWEEN_CASES {
-        assert_eq!(rt; check8_between(before, all, len), wanted, "{len}");
+    for (crc_before, crc_of_all, len, expected_crc) in CRC_BETWEEN_CASES {
+        assert_eq!(rt;
+            check8_between(crc_before, crc_of_all, len),
+            expected_crc,
+            "{len}"
+        );
     }
 }
 
@@ -104,25 +108,25 @@ const HEADERS: [([u8; 6], HeaderFields); 9] = [
 
 #[test]
 fn headers_are_read(rt: HostRuntime) {
-    for (row, (bytes, wanted)) in HEADERS.iter().enumerate() {
+    for (case_number, (bytes, expected_fields)) in HEADERS.iter().enumerate() {
         let fields = match read_header(bytes) {
             Ok(header) => Ok((header.data_len, header.opt_len, header.kind)),
             Err(why) => Err(why),
         };
-        assert_eq!(rt; fields, *wanted, "row {row}");
+        assert_eq!(rt; fields, *expected_fields, "row {case_number}");
     }
 }
 
 #[test]
 fn contact_packet_is_written(rt: HostRuntime) {
-    let mut out = ArrayVec::<u8, 24>::new();
+    let mut buffer = ArrayVec::<u8, 24>::new();
     let (body, opt) = (&CONTACT_PACKET[6..13], &CONTACT_PACKET[13..20]);
-    assert_eq!(rt; write_packet(1, body, opt, &mut out), Ok(()));
-    assert_eq!(rt; out.as_slice(), CONTACT_PACKET.as_slice());
-    let again = write_packet(1, body, opt, &mut out);
-    let empty = write_packet(1, &[], &[], &mut out);
-    let wanted = (Err(PacketFault::NoRoom), Err(PacketFault::EmptyPacket));
-    assert_eq!(rt; (again, empty), wanted);
+    assert_eq!(rt; write_packet(1, body, opt, &mut buffer), Ok(()));
+    assert_eq!(rt; buffer.as_slice(), CONTACT_PACKET.as_slice());
+    let second_result = write_packet(1, body, opt, &mut buffer);
+    let empty_result = write_packet(1, &[], &[], &mut buffer);
+    let expected_results = (Err(PacketFault::NoRoom), Err(PacketFault::EmptyPacket));
+    assert_eq!(rt; (second_result, empty_result), expected_results);
 }
 
 // Bytes, whether they are the packet, and whether they begin with it.
@@ -157,18 +161,21 @@ const PACKET_SLICES: [PacketSlice; 4] = [
 
 #[test]
 fn slices_of_a_packet(rt: HostRuntime) {
-    let contact = PacketRef {
+    let contact_packet = PacketRef {
         kind: 1,
         body: &CONTACT_PACKET[6..13],
         opt: &CONTACT_PACKET[13..20],
     };
-    for (row, part) in PACKET_SLICES.iter().enumerate() {
-        let found = (read_packet(part.bytes), packet_at_start(part.bytes));
-        let wanted = (
-            part.is_packet.then_some(contact),
-            part.is_first.then_some((contact, 21)),
+    for (case_number, slice_case) in PACKET_SLICES.iter().enumerate() {
+        let packets_read = (
+            read_packet(slice_case.bytes),
+            packet_at_start(slice_case.bytes),
         );
-        assert_eq!(rt; found, wanted, "row {row}");
+        let expected_packets = (
+            slice_case.is_packet.then_some(contact_packet),
+            slice_case.is_first.then_some((contact_packet, 21)),
+        );
+        assert_eq!(rt; packets_read, expected_packets, "row {case_number}");
     }
     assert!(rt; packet_at_start(&CONTACT_PACKET[..20]).is_none());
 }
@@ -195,10 +202,10 @@ const ZERO_DATA_CASES: [([u8; 6], usize, Option<(usize, usize)>); 3] = [
 
 #[test]
 fn long_packets_of_zeros_are_read(rt: HostRuntime) -> Result<(), Fail> {
-    for (header, zeros, wanted) in ZERO_DATA_CASES {
+    for (header, zeros, expected_lengths) in ZERO_DATA_CASES {
         let text = header_and_zeros(rt.alloc(), header, zeros)?;
         let lengths = read_packet(&text).map(|packet| (packet.body.len(), packet.opt.len()));
-        assert_eq!(rt; lengths, wanted, "{zeros}");
+        assert_eq!(rt; lengths, expected_lengths, "{zeros}");
     }
     Ok(())
 }
@@ -216,14 +223,14 @@ const WRITE_LENGTH_CASES: [(usize, usize, Result<(), PacketFault>, usize); 4] = 
 fn longest_packets_are_written(rt: HostRuntime) -> Result<(), Fail> {
     assert_eq!(rt; MAX_PACKET, 65_797);
     let zeros = vec![in rt.alloc(); 0; 65_536]?;
-    let mut out = ArrayVec::<u8, 262>::new();
-    for (data_len, opt_len, wanted, written) in WRITE_LENGTH_CASES {
+    let mut buffer = ArrayVec::<u8, 262>::new();
+    for (data_len, opt_len, expected_result, written_len) in WRITE_LENGTH_CASES {
         let data = zeros.get(..data_len).ok_or("too much data")?;
         let opt = zeros.get(..opt_len).ok_or("too much data")?;
-        let done = write_packet(9, data, opt, &mut out);
+        let write_result = write_packet(9, data, opt, &mut buffer);
         assert_eq!(rt;
-            (done, out.len()),
-            (wanted, written),
+            (write_result, buffer.len()),
+            (expected_result, written_len),
             "{data_len} {opt_len}"
         );
     }

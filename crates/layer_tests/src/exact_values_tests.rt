@@ -43,23 +43,33 @@ const SCALE_CASES: [ScaleCase; 13] = [
 
 #[test]
 fn scaled_numbers(rt: HostRuntime) {
-    for (raw, first, last, low, high, wanted) in SCALE_CASES {
-        assert!(rt; first <= 65_535 && last <= 65_535 && first != last);
-        assert!(rt; -1_000_000 <= low && low <= 1_000_000);
-        assert!(rt; -1_000_000 <= high && high <= 1_000_000);
-        let found = scale(raw, first, last, low, high).map(numerator_and_denominator);
-        assert_eq!(rt; found, wanted, "{raw} from {first} to {last}");
+    for (raw, first_raw, last_raw, low_tenths, high_tenths, expected_fraction) in SCALE_CASES {
+        assert!(rt; first_raw <= 65_535 && last_raw <= 65_535 && first_raw != last_raw);
+        assert!(rt; -1_000_000 <= low_tenths && low_tenths <= 1_000_000);
+        assert!(rt; -1_000_000 <= high_tenths && high_tenths <= 1_000_000);
+        let scaled = scale(raw, first_raw, last_raw, low_tenths, high_tenths).map(
+            numerator_and_denominator,
+        );
+        assert_eq!(rt;
+            scaled,
+            expected_fraction,
+            "{raw} from {first_raw} to {last_raw}"
+        );
     }
 }
 
 #[test]
 fn quotients(rt: HostRuntime) {
-    for (found, wanted) in [
+    for (quotient, expected_fraction) in [
         (over(16_777_215, 1000), (3_355_443, 200)),
         (over(0, 1000), (0, 1)),
         (over(7, 1), (7, 1)),
     ] {
-        assert_eq!(rt; numerator_and_denominator(found), wanted, "{wanted:?}");
+        assert_eq!(rt;
+            numerator_and_denominator(quotient),
+            expected_fraction,
+            "{expected_fraction:?}"
+        );
     }
     assert_eq!(rt; Fraction::default(), over(0, 1));
 }

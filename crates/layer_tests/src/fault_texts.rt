@@ -54,9 +54,9 @@ const ORDER_FAULT_TEXTS: [(OrderFault, &str); 4] = [
 
 // The faults have these texts.
 fn have_texts<E: Error>(rt: &HostRuntime, cases: &[(E, &str)]) -> Result<(), Fail> {
-    for (fault, wanted) in cases {
-        if fault.to_string(rt.alloc())?.as_str() != *wanted {
-            return Err(Fail::from(*wanted));
+    for (fault, expected_text) in cases {
+        if fault.to_string(rt.alloc())?.as_str() != *expected_text {
+            return Err(Fail::from(*expected_text));
         }
     }
     Ok(())

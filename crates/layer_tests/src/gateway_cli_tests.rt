@@ -12,10 +12,10 @@ fn words_of(rt: &HostRuntime, line: &str) -> Result<Vec<String>, Fail> {
 }
 
 // `clap` rejects the line in this way.
-fn is_rejected(rt: &HostRuntime, line: &str, wanted: ErrorKind) -> Result<(), Fail> {
+fn is_rejected(rt: &HostRuntime, line: &str, expected_kind: ErrorKind) -> Result<(), Fail> {
     let words = words_of(rt, line)?;
     match read(rt.alloc(), words.as_slice()) {
-        Err(CommandLineFault::ClapError(error)) if error.kind() == wanted => Ok(()),
+        Err(CommandLineFault::ClapError(error)) if error.kind() == expected_kind => Ok(()),
         _ => Err(Fail::from(line)),
     }
 }
@@ -103,22 +103,26 @@ const ACCEPTED_LIVE_LINES: [(&str, ExpectedOptions); 5] = [
     ),
 ];
 
-fn is_accepted(rt: &HostRuntime, line: &str, wanted: ExpectedOptions) -> Result<(), Fail> {
+fn is_accepted(
+    rt: &HostRuntime,
+    line: &str,
+    expected_options: ExpectedOptions,
+) -> Result<(), Fail> {
     let words = words_of(rt, line)?;
     match read(rt.alloc(), words.as_slice()) {
-        Ok(options) if options == options_of(wanted) => Ok(()),
+        Ok(options) if options == options_of(expected_options) => Ok(()),
         _ => Err(Fail::from(line)),
     }
 }
 
 #[test]
 fn accepted_lines(rt: HostRuntime) -> Result<(), Fail> {
-    for (line, wanted) in ACCEPTED_REPLAY_LINES {
-        is_accepted(&rt, line, wanted)?;
+    for (line, expected_options) in ACCEPTED_REPLAY_LINES {
+        is_accepted(&rt, line, expected_options)?;
     }
-    for (end, wanted) in ACCEPTED_LIVE_LINES {
-        let line = format!(in rt.alloc(); "{LIVE_COMMAND_LINE_START}{end}")?;
-        is_accepted(&rt, line.as_str(), wanted)?;
+    for (line_end, expected_options) in ACCEPTED_LIVE_LINES {
+        let line = format!(in rt.alloc(); "{LIVE_COMMAND_LINE_START}{line_end}")?;
+        is_accepted(&rt, line.as_str(), expected_options)?;
     }
     let other_order = "enogate live --turns=20 --out=o --desk=in/d --serial=/dev/s --base=FF800000";
     is_accepted(&rt, other_order, (0xFF80_0000, None, false, Some(20)))
@@ -190,9 +194,9 @@ const REJECTED_LINES: [(&str, &str, ErrorKind); 13] = [
 
 #[test]
 fn rejected_command_lines(rt: HostRuntime) -> Result<(), Fail> {
-    for (start, ends, kind) in REJECTED_LINES {
-        for end in ends.split('|') {
-            let line = format!(in rt.alloc(); "{start}{end}")?;
+    for (start, line_ends, kind) in REJECTED_LINES {
+        for line_end in line_ends.split('|') {
+            let line = format!(in rt.alloc(); "{start}{line_end}")?;
             is_rejected(&rt, line.as_str(), kind)?;
         }
     }
@@ -209,16 +213,16 @@ fn live_options_are_required_once(rt: HostRuntime) -> Result<(), Fail> {
         " --out o",
         " --turns 1",
     ];
-    for left_out in options {
+    for omitted_option in options {
         let mut line = "enogate live".to_string(rt.alloc())?;
         for option in options {
-            if option != left_out {
+            if option != omitted_option {
                 line.push_str(option)?;
             }
         }
         is_rejected(&rt, line.as_str(), ErrorKind::MissingRequiredArgument)?;
-        line.push_str(left_out)?;
-        line.push_str(left_out)?;
+        line.push_str(omitted_option)?;
+        line.push_str(omitted_option)?;
         is_rejected(&rt, line.as_str(), ErrorKind::ArgumentConflict)?;
     }
     Ok(())

@@ -28,8 +28,8 @@ const ACTUATOR_EEP: Eep = Eep {
     typ: 0x12,
 };
 
-fn expect_line(rt: &impl Abort, line: &[u8], wanted: &str) {
-    assert!(rt; line == wanted.as_bytes(), "{wanted}");
+fn expect_line(rt: &impl Abort, line: &[u8], expected_text: &str) {
+    assert!(rt; line == expected_text.as_bytes(), "{expected_text}");
 }
 
 const LINE_WITHOUT_READINGS: &str =

@@ -59,36 +59,44 @@ fn telegram(rorg: u8, payload: &[u8], status: u8) -> Result<Telegram, Fail> {
 }
 
 // Whether a reading has the expected content.
-pub(crate) fn has_content(what: What, wanted: ExpectedContent) -> bool {
-    match (what, wanted) {
-        (What::Value(value, unit), ExpectedContent::Value(num, den, wanted)) => {
-            value.num() == num && value.den() == den && unit == wanted
+pub(crate) fn has_content(content: What, expected_content: ExpectedContent) -> bool {
+    match (content, expected_content) {
+        (What::Value(value, unit), ExpectedContent::Value(num, den, expected_content)) => {
+            value.num() == num && value.den() == den && unit == expected_content
         }
-        (What::Word(word), ExpectedContent::Word(wanted)) => word == wanted,
-        (What::Raw(raw), ExpectedContent::Raw(wanted)) => raw == wanted,
-        (What::OutOfRange(raw), ExpectedContent::OutOfRange(wanted)) => raw == wanted,
+        (What::Word(word), ExpectedContent::Word(expected_content)) => word == expected_content,
+        (What::Raw(raw), ExpectedContent::Raw(expected_content)) => raw == expected_content,
+        (What::OutOfRange(raw), ExpectedContent::OutOfRange(expected_content)) => raw
+            == expected_content,
         _ => false,
     }
 }
 
 // Whether these are the readings, in this order.
-fn have_contents(readings: &[Reading], wanted: &[(&'static str, ExpectedContent)]) -> bool {
-    for (reading, (name, wanted)) in readings.iter().zip(wanted) {
-        if reading.name != *name || !has_content(reading.what, *wanted) {
+fn have_contents(
+    readings: &[Reading],
+    expected_contents: &[(&'static str, ExpectedContent)],
+) -> bool {
+    for (reading, (name, expected_contents)) in readings.iter().zip(expected_contents) {
+        if reading.name != *name || !has_content(reading.what, *expected_contents) {
             return false;
         }
     }
-    readings.len() == wanted.len()
+    readings.len() == expected_contents.len()
 }
 
-fn cases_are_read(rt: &impl Abort, by: ProfileCrate, cases: &[ReadingCase]) -> Result<(), Fail> {
-    for (row, case) in cases.iter().enumerate() {
+fn cases_are_read(
+    rt: &impl Abort,
+    profile_crate: ProfileCrate,
+    cases: &[ReadingCase],
+) -> Result<(), Fail> {
+    for (case_number, case) in cases.iter().enumerate() {
         let mut readings = Readings::new();
         let (rorg, func, typ) = case.profile;
         let telegram = telegram(rorg, case.payload, case.status)?;
-        let result = by.read(Eep::new(rorg, func, typ), &telegram, &mut readings);
-        let is_well = result == Ok(()) && have_contents(&readings, case.readings);
-        assert!(rt; is_well, "row {row}: {result:?}, {readings:?}");
+        let result = profile_crate.read(Eep::new(rorg, func, typ), &telegram, &mut readings);
+        let is_correct = result == Ok(()) && have_contents(&readings, case.readings);
+        assert!(rt; is_correct, "row {case_number}: {result:?}, {readings:?}");
     }
     Ok(())
 }
@@ -107,20 +115,24 @@ fn telegrams_have_expected_readings(rt: HostRuntime) -> Result<(), Fail> {
 // An error leaves the readings that were there before.
 fn cases_are_unreadable(
     rt: &impl Abort,
-    by: ProfileCrate,
-    before: Reading,
+    profile_crate: ProfileCrate,
+    reading_before: Reading,
     cases: &[UnreadableCase],
 ) -> Result<(), Fail> {
     let mut readings = Readings::new();
-    readings.push(before);
-    for (row, (profile, rorg, payload, wanted)) in cases.iter().enumerate() {
-        let (own, func, typ) = *profile;
+    readings.push(reading_before);
+    for (case_number, (profile, rorg, payload, expected_reason)) in cases.iter().enumerate() {
+        let (rorg_of_profile, func, typ) = *profile;
         let telegram = telegram(*rorg, payload, 0x00)?;
-        let why = by.read(Eep::new(own, func, typ), &telegram, &mut readings);
+        let result = profile_crate.read(
+            Eep::new(rorg_of_profile, func, typ),
+            &telegram,
+            &mut readings,
+        );
         assert_eq!(rt;
-            (why, readings.as_slice()),
-            (Err(*wanted), [before].as_slice()),
-            "row {row}"
+            (result, readings.as_slice()),
+            (Err(*expected_reason), [reading_before].as_slice()),
+            "row {case_number}"
         );
     }
     Ok(())
@@ -144,11 +156,11 @@ fn unreadable_telegrams(rt: HostRuntime) -> Result<(), Fail> {
         profiles_4bs_tests::READING_BEFORE_FAULT,
         four_bytes,
     )?;
-    let before = profiles_vld_tests::READING_BEFORE_FAULT;
+    let reading_before = profiles_vld_tests::READING_BEFORE_FAULT;
     cases_are_unreadable(
         &rt,
         ProfileCrate::Vld,
-        before,
+        reading_before,
         &profiles_vld_tests::UNREADABLE_CASES,
     )
 }
@@ -169,17 +181,17 @@ fn supported_profiles(rt: HostRuntime) {
         for func in 0..=0xFFu8 {
             for typ in 0..=0xFFu8 {
                 let eep = Eep::new(rorg, func, typ);
-                let found = (
+                let supports_eep = (
                     profiles_rps::supports(eep),
                     profiles_4bs::supports(eep),
                     profiles_vld::supports(eep),
                 );
-                let wanted = (
+                let are_listed = (
                     is_listed_as_supported(eep, &profiles_rps_tests::SUPPORTED_TYPES),
                     is_listed_as_supported(eep, &profiles_4bs_tests::SUPPORTED_TYPES),
                     is_listed_as_supported(eep, &profiles_vld_tests::SUPPORTED_TYPES),
                 );
-                assert_eq!(rt; found, wanted, "{rorg} {func} {typ}");
+                assert_eq!(rt; supports_eep, are_listed, "{rorg} {func} {typ}");
             }
         }
     }

@@ -70,9 +70,9 @@ const TEACH_IN_ROLES: [(u8, &[u8], Teach); 7] = [
 
 #[test]
 fn telegrams_have_teach_in_roles(rt: HostRuntime) -> Result<(), Fail> {
-    for (row, (rorg, payload, wanted)) in TEACH_IN_ROLES.iter().enumerate() {
-        let found = classify(&telegram(*rorg, payload)?);
-        assert_eq!(rt; found, *wanted, "row {row}");
+    for (case_number, (rorg, payload, expected_role)) in TEACH_IN_ROLES.iter().enumerate() {
+        let role = classify(&telegram(*rorg, payload)?);
+        assert_eq!(rt; role, *expected_role, "row {case_number}");
     }
     Ok(())
 }
@@ -94,16 +94,16 @@ fn ute_query(payload: &[u8]) -> Result<UteQuery, Fail> {
 #[test]
 fn four_byte_query_is_read(rt: HostRuntime) -> Result<(), Fail> {
     let query = four_byte_query(&THERMOMETER_4BS_QUERY)?;
-    let found = (query.id(), query.eep(), query.maker());
-    assert_eq!(rt; found, (SENDER, THERMOMETER_PROFILE, 70));
+    let query_fields = (query.id(), query.eep(), query.maker());
+    assert_eq!(rt; query_fields, (SENDER, THERMOMETER_PROFILE, 70));
     Ok(())
 }
 
 #[test]
 fn ute_query_is_read(rt: HostRuntime) -> Result<(), Fail> {
     let query = ute_query(&LAMP_UTE_QUERY)?;
-    let found = (query.id(), query.eep(), query.maker(), query.wants_reply());
-    assert_eq!(rt; found, (SENDER, LAMP_PROFILE, 70, true));
+    let query_fields = (query.id(), query.eep(), query.maker(), query.wants_reply());
+    assert_eq!(rt; query_fields, (SENDER, LAMP_PROFILE, 70, true));
     Ok(())
 }
 
@@ -117,8 +117,8 @@ enum ExpectedPlan {
     Refuse(Outcome),
 }
 
-fn is_expected_plan(plan: &Plan, wanted: ExpectedPlan) -> bool {
-    match (plan, wanted) {
+fn is_expected_plan(plan: &Plan, expected_plan: ExpectedPlan) -> bool {
+    match (plan, expected_plan) {
         (Plan::Silent, ExpectedPlan::Silent) => true,
         (Plan::Add(device), ExpectedPlan::Add(eep, maker)) => {
             device.id == SENDER
@@ -127,7 +127,7 @@ fn is_expected_plan(plan: &Plan, wanted: ExpectedPlan) -> bool {
                 && device.label.as_str().is_empty()
         }
         (Plan::Forget(id), ExpectedPlan::Forget) => *id == SENDER,
-        (Plan::Refuse(why), ExpectedPlan::Refuse(wanted)) => *why == wanted,
+        (Plan::Refuse(why), ExpectedPlan::Refuse(expected_plan)) => *why == expected_plan,
         _ => false,
     }
 }
@@ -194,10 +194,13 @@ const PLAN_CASES: [PlanCase; 8] = [
 
 #[test]
 fn telegrams_have_plans(rt: HostRuntime) -> Result<(), Fail> {
-    for (row, case) in PLAN_CASES.iter().enumerate() {
+    for (case_number, case) in PLAN_CASES.iter().enumerate() {
         let (rorg, payload) = case.telegram;
         let plan = plan(&telegram(rorg, payload)?, case.mode, case.known);
-        assert!(rt; is_expected_plan(&plan, case.wanted), "row {row}: {plan:?}");
+        assert!(rt;
+            is_expected_plan(&plan, case.wanted),
+            "row {case_number}: {plan:?}"
+        );
     }
     Ok(())
 }
@@ -212,8 +215,8 @@ const PROFILES_AND_SUPPORT: [(Eep, bool); 4] = [
 
 #[test]
 fn profiles_are_supported_or_not(rt: HostRuntime) {
-    for (row, (eep, wanted)) in PROFILES_AND_SUPPORT.iter().enumerate() {
-        assert_eq!(rt; supported(*eep), *wanted, "row {row}");
+    for (case_number, (eep, is_supported)) in PROFILES_AND_SUPPORT.iter().enumerate() {
+        assert_eq!(rt; supported(*eep), *is_supported, "row {case_number}");
     }
 }
 

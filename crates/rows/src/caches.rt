@@ -27,14 +27,19 @@ fn run_session(rt: &HostRuntime, report: &mut Report, name: &str, cache: usize) 
     requires { (1 ≤ cache) × (cache ≤ 1024) }
 {
     let alloc = rt.alloc();
-    let (script, wanted) = read_session(rt, name, false)?;
+    let (script, expected_output) = read_session(rt, name, false)?;
     let conn = Connection::open_in_memory(alloc)?;
     let Ok(registry) = Registry::open_with(alloc, conn, cache) else {
         return report.add_case(rt, name, false);
     };
-    let is_well = writes_expected_output(alloc, registry, script.as_slice(), wanted.as_slice());
+    let is_correct = writes_expected_output(
+        alloc,
+        registry,
+        script.as_slice(),
+        expected_output.as_slice(),
+    );
     let title = format!(in alloc; "{name} with a cache of {cache}")?;
-    report.add_case(rt, title.as_str(), is_well)
+    report.add_case(rt, title.as_str(), is_correct)
 }
 
 // Whether this is written for a script over this registry.
@@ -42,19 +47,19 @@ fn writes_expected_output<S: DeviceStore + Drop>(
     alloc: Global,
     registry: S,
     script: &[u8],
-    wanted: &[u8],
+    expected_output: &[u8],
 ) -> bool {
     let Ok(mut gateway) = GatewayOver::new(alloc, registry, 0xFF80_0000) else {
         return false;
     };
-    let mut written = Vec::new(alloc);
+    let mut output = Vec::new(alloc);
     let mut reader = OverRead::new(script);
-    let done = replay(
+    let result = replay(
         &mut reader,
-        &mut OverWrite::new(&mut written),
+        &mut OverWrite::new(&mut output),
         &mut gateway,
         false,
         MAX_READS,
     );
-    done.is_ok() && written.as_slice() == wanted
+    result.is_ok() && output.as_slice() == expected_output
 }

@@ -43,17 +43,17 @@ impl RandomNumbers {
 }
 
 // Eight parts, each a packet, a false header, a prefix of a packet, or noise.
-fn random_stream(alloc: Global, chance: &mut RandomNumbers) -> Result<Vec<u8>> {
+fn random_stream(alloc: Global, random_numbers: &mut RandomNumbers) -> Result<Vec<u8>> {
     let mut bytes = Vec::new(alloc);
     for _ in 0..8 {
-        match chance.next() % 6 {
+        match random_numbers.next() % 6 {
             0 | 1 => bytes.extend_from_slice(&CONTACT_PACKET)?,
             2 => bytes.extend_from_slice(&RESPONSE_PACKET)?,
-            3 => bytes.extend_from_slice(&CONTACT_PACKET[..chance.next() % 21])?,
+            3 => bytes.extend_from_slice(&CONTACT_PACKET[..random_numbers.next() % 21])?,
             4 => bytes.extend_from_slice(&FALSE_HEADER)?,
             _ => {
-                for _ in 0..chance.next() % 9 {
-                    bytes.push((chance.next() % 256) as u8)?;
+                for _ in 0..random_numbers.next() % 9 {
+                    bytes.push((random_numbers.next() % 256) as u8)?;
                 }
             }
         }
@@ -62,10 +62,10 @@ fn random_stream(alloc: Global, chance: &mut RandomNumbers) -> Result<Vec<u8>> {
 }
 
 // Appends a chunk of serial bytes to a script.
-pub(crate) fn add_chunk(script: &mut Vec<u8>, piece: &[u8]) -> Result<()> {
+pub(crate) fn add_chunk(script: &mut Vec<u8>, chunk: &[u8]) -> Result<()> {
     const DIGITS: &[u8; 16] = b"0123456789ABCDEF";
     script.extend_from_slice(b"S ")?;
-    for byte in piece {
+    for byte in chunk {
         script.push(DIGITS[usize::from(byte >> 4)])?;
         script.push(DIGITS[usize::from(byte & 15)])?;
     }
@@ -78,23 +78,23 @@ pub(crate) fn add_chunk(script: &mut Vec<u8>, piece: &[u8]) -> Result<()> {
 fn script_of_stream(
     alloc: Global,
     bytes: &[u8],
-    longest: usize,
-    chance: &mut RandomNumbers,
+    max_len: usize,
+    random_numbers: &mut RandomNumbers,
 ) -> Result<Vec<u8>> {
     let mut script = Vec::new(alloc);
     script.extend_from_slice(LEARN_CONTACT)?;
-    let mut rest = bytes;
+    let mut remaining = bytes;
     for _ in 0..bytes.len() {
-        let len = if longest == 0 {
-            chance.next() % 40
+        let len = if max_len == 0 {
+            random_numbers.next() % 40
         } else {
-            longest
+            max_len
         };
-        let (piece, behind) = rest.split_at(len.min(rest.len()));
-        add_chunk(&mut script, piece)?;
-        rest = behind;
+        let (chunk, remaining_after) = remaining.split_at(len.min(remaining.len()));
+        add_chunk(&mut script, chunk)?;
+        remaining = remaining_after;
     }
-    add_chunk(&mut script, rest)?;
+    add_chunk(&mut script, remaining)?;
     script.extend_from_slice(b"status\n")?;
     Ok(script)
 }
@@ -103,46 +103,50 @@ fn script_of_stream(
 fn output_for_stream(
     alloc: Global,
     bytes: &[u8],
-    longest: usize,
-    chance: &mut RandomNumbers,
+    max_len: usize,
+    random_numbers: &mut RandomNumbers,
 ) -> Result<Vec<u8>> {
-    let script = script_of_stream(alloc, bytes, longest, chance)?;
-    let mut out = Vec::new(alloc);
+    let script = script_of_stream(alloc, bytes, max_len, random_numbers)?;
+    let mut output = Vec::new(alloc);
     let mut reader = OverRead::new(script.as_slice());
-    let mut writer = OverWrite::new(&mut out);
-    let done = replay_by_new_gateway(alloc, &mut reader, &mut writer, false, MAX_READS)?;
-    if done.is_err() {
-        out.clear();
+    let mut writer = OverWrite::new(&mut output);
+    let result = replay_by_new_gateway(alloc, &mut reader, &mut writer, false, MAX_READS)?;
+    if result.is_err() {
+        output.clear();
     }
-    Ok(out)
+    Ok(output)
 }
 
 // The output for the next stream, unsplit. `None`: other chunk boundaries change it.
-fn output_for_all_chunkings(alloc: Global, chance: &mut RandomNumbers) -> Result<Option<Vec<u8>>> {
-    let bytes = random_stream(alloc, chance)?;
-    let whole = output_for_stream(alloc, bytes.as_slice(), 99, chance)?;
-    let single = output_for_stream(alloc, bytes.as_slice(), 1, chance)?;
-    let mixed = output_for_stream(alloc, bytes.as_slice(), 0, chance)?;
-    let is_same = single.as_slice() == whole.as_slice() && mixed.as_slice() == whole.as_slice();
-    Ok(is_same.then_some(whole))
+fn output_for_all_chunkings(
+    alloc: Global,
+    random_numbers: &mut RandomNumbers,
+) -> Result<Option<Vec<u8>>> {
+    let bytes = random_stream(alloc, random_numbers)?;
+    let output_of_long = output_for_stream(alloc, bytes.as_slice(), 99, random_numbers)?;
+    let output_of_bytes = output_for_stream(alloc, bytes.as_slice(), 1, random_numbers)?;
+    let output_of_short = output_for_stream(alloc, bytes.as_slice(), 0, random_numbers)?;
+    let is_same = output_of_bytes.as_slice() == output_of_long.as_slice()
+        && output_of_short.as_slice() == output_of_long.as_slice();
+    Ok(is_same.then_some(output_of_long))
 }
 
 // In more than a hundred streams, a packet is read.
 pub(crate) fn run_cases(rt: &HostRuntime, report: &mut Report) -> Result<()> {
-    let mut chance = RandomNumbers { state: 2026 };
-    let mut same = 0u32;
-    let mut stated = 0u32;
+    let mut random_numbers = RandomNumbers { state: 2026 };
+    let mut same_count = 0u32;
+    let mut status_count = 0u32;
     for _ in 0..STREAM_COUNT {
-        if let Some(text) = output_for_all_chunkings(rt.alloc(), &mut chance)? {
-            same = same.saturating_add(1);
+        if let Some(text) = output_for_all_chunkings(rt.alloc(), &mut random_numbers)? {
+            same_count = same_count.saturating_add(1);
             if text.len() > 300 {
-                stated = stated.saturating_add(1);
+                status_count = status_count.saturating_add(1);
             }
         }
     }
     report.add_case(
         rt,
         "a thousand streams, each cut in three ways",
-        same == STREAM_COUNT && stated > 100,
+        same_count == STREAM_COUNT && status_count > 100,
     )
 }

@@ -18,8 +18,8 @@ pub(crate) fn run_cases(rt: &HostRuntime, report: &mut Report) -> Result<()> {
     run_close_order(rt, report)
 }
 
-fn database_fault(why: StoreFault) -> Fault {
-    Fault::Database(OpenFault::Failed(why))
+fn database_fault(store_fault: StoreFault) -> Fault {
+    Fault::Database(OpenFault::Failed(store_fault))
 }
 
 // Each fault has its text, and the status 1.
@@ -33,25 +33,25 @@ fn run_fault_texts_and_status(rt: &HostRuntime, report: &mut Report) -> Result<(
         (Fault::Run(RunFault::Write), "write"),
         (Fault::Run(RunFault::TooManyTurns), "too many turns"),
     ] {
-        let printed = fault.to_string(rt.alloc())?;
-        let is_well = printed.as_str() == text && status(&Err(Ending::from(fault))) == 1;
-        let name = format!(in rt.alloc(); "the fault: {printed}")?;
-        report.add_case(rt, name.as_str(), is_well)?;
+        let printed_text = fault.to_string(rt.alloc())?;
+        let is_correct = printed_text.as_str() == text && status(&Err(Ending::from(fault))) == 1;
+        let name = format!(in rt.alloc(); "the fault: {printed_text}")?;
+        report.add_case(rt, name.as_str(), is_correct)?;
     }
     Ok(())
 }
 
 // Each cause for which no gateway starts has a text of its own, for callers of the libraries.
 fn run_start_fault_texts(rt: &HostRuntime, report: &mut Report) -> Result<()> {
-    for (text, wanted) in [
+    for (text, expected_text) in [
         (StartFault::BadBase.to_string(rt.alloc())?, "not a base ID"),
         (
             StartFault::Memory.to_string(rt.alloc())?,
             "there is no memory",
         ),
     ] {
-        let name = format!(in rt.alloc(); "the text: {wanted}")?;
-        report.add_case(rt, name.as_str(), text.as_str() == wanted)?;
+        let name = format!(in rt.alloc(); "the text: {expected_text}")?;
+        report.add_case(rt, name.as_str(), text.as_str() == expected_text)?;
     }
     Ok(())
 }
@@ -59,7 +59,7 @@ fn run_start_fault_texts(rt: &HostRuntime, report: &mut Report) -> Result<()> {
 fn run_statuses(rt: &HostRuntime, report: &mut Report) -> Result<()> {
     let not_text = io::Error::from(io::ErrorKind::InvalidData);
     let out_of_memory = io::Error::from(AllocError);
-    for (name, ended, wanted) in [
+    for (name, ending, expected_status) in [
         ("an end with no fault", Ok(()), 0),
         (
             "a bad base",
@@ -82,7 +82,7 @@ fn run_statuses(rt: &HostRuntime, report: &mut Report) -> Result<()> {
             1,
         ),
     ] {
-        report.add_case(rt, name, status(&ended) == wanted)?;
+        report.add_case(rt, name, status(&ending) == expected_status)?;
     }
     Ok(())
 }
@@ -107,12 +107,13 @@ const COMMAND_LINES: &str = "\
 2 enogate live --base FF800000 --serial s --desk d --out o --turns 0";
 
 fn run_command_lines(rt: &HostRuntime, report: &mut Report) -> Result<()> {
-    for case in COMMAND_LINES.lines() {
-        let is_well = match case.split_once(' ') {
-            Some((wanted, line)) => status_of_line(rt.alloc(), line)? == wanted.parse().ok(),
+    for status_and_line in COMMAND_LINES.lines() {
+        let is_correct = match status_and_line.split_once(' ') {
+            Some((status_text, line)) => status_of_line(rt.alloc(), line)?
+                == status_text.parse().ok(),
             None => false,
         };
-        report.add_case(rt, case, is_well)?;
+        report.add_case(rt, status_and_line, is_correct)?;
     }
     Ok(())
 }
@@ -134,7 +135,7 @@ fn run_close_order(rt: &HostRuntime, report: &mut Report) -> Result<()> {
     let summary = Summary { items: 2 };
     let error = sqlite::Error::SqliteFailure(sqlite::ErrorCode::TransactionState);
     let out_of_memory = sqlite::Error::SqliteFailure(sqlite::ErrorCode::OutOfMemory);
-    for (name, served, closed, wanted) in [
+    for (name, run_result, close_result, expected_ending) in [
         ("all well", Ok(Ok(summary)), Ok(()), Ok(())),
         (
             "a run's fault",
@@ -173,7 +174,11 @@ fn run_close_order(rt: &HostRuntime, report: &mut Report) -> Result<()> {
             Err(Fault::CannotOpenFile),
         ),
     ] {
-        report.add_case(rt, name, done_or_first_fault(served, closed) == wanted)?;
+        report.add_case(
+            rt,
+            name,
+            done_or_first_fault(run_result, close_result) == expected_ending,
+        )?;
     }
     Ok(())
 }

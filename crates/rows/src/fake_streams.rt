@@ -11,7 +11,7 @@ fn injected_error() -> io::Error {
 #[derive(Drop)]
 pub struct PartReader<'a> {
     parts: &'a [&'a [u8]],
-    reads: usize,
+    read_count: usize,
     fails_at: usize,
 }
 
@@ -19,7 +19,7 @@ impl<'a> PartReader<'a> {
     pub(crate) fn new(parts: &'a [&'a [u8]], fails_at: usize) -> PartReader<'a> {
         PartReader {
             parts,
-            reads: 0,
+            read_count: 0,
             fails_at,
         }
     }
@@ -27,8 +27,8 @@ impl<'a> PartReader<'a> {
 
 impl<'a> Read for PartReader<'a> {
     fn read(&mut self, buffer: &mut [u8]) -> io::Result<usize> {
-        self.reads = self.reads.saturating_add(1);
-        if self.reads == self.fails_at || buffer.len() != 256 {
+        self.read_count = self.read_count.saturating_add(1);
+        if self.read_count == self.fails_at || buffer.len() != 256 {
             return Err(injected_error());
         }
         let Some(part) = self.parts.first() else {
@@ -44,18 +44,22 @@ impl<'a> Read for PartReader<'a> {
 /// 1: so a second try is detected.
 #[derive(Drop)]
 pub struct LimitedWriter<'a> {
-    taken: &'a mut Vec<u8>,
-    most: usize,
-    writes: usize,
+    output: &'a mut Vec<u8>,
+    max_len: usize,
+    write_count: usize,
     fails_at: usize,
 }
 
 impl<'a> LimitedWriter<'a> {
-    pub(crate) fn new(taken: &'a mut Vec<u8>, most: usize, fails_at: usize) -> LimitedWriter<'a> {
+    pub(crate) fn new(
+        output: &'a mut Vec<u8>,
+        max_len: usize,
+        fails_at: usize,
+    ) -> LimitedWriter<'a> {
         LimitedWriter {
-            taken,
-            most,
-            writes: 0,
+            output,
+            max_len,
+            write_count: 0,
             fails_at,
         }
     }
@@ -63,11 +67,11 @@ impl<'a> LimitedWriter<'a> {
 
 impl<'a> Write for LimitedWriter<'a> {
     fn write(&mut self, text: &[u8]) -> io::Result<usize> {
-        self.writes = self.writes.saturating_add(1);
-        if self.writes == self.fails_at {
+        self.write_count = self.write_count.saturating_add(1);
+        if self.write_count == self.fails_at {
             return Err(injected_error());
         }
-        self.taken.write(&text[..text.len().min(self.most)])
+        self.output.write(&text[..text.len().min(self.max_len)])
     }
 
     fn flush(&mut self) -> io::Result<()> {

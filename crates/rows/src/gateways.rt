@@ -48,13 +48,13 @@ pub(crate) fn replay_output_of<S: DeviceStore>(
     if gateway.is_ready() {
         bail!("a packet waits");
     }
-    let mut written = Vec::new(alloc);
+    let mut output = Vec::new(alloc);
     let mut reader = OverRead::new(script);
-    let mut writer = OverWrite::new(&mut written);
+    let mut writer = OverWrite::new(&mut output);
     if replay(&mut reader, &mut writer, gateway, false, MAX_READS).is_err() {
         bail!("a replay broke off");
     }
-    Ok(written)
+    Ok(output)
 }
 
 // Serves a serial line and a desk by a new gateway.
@@ -123,12 +123,17 @@ fn finds_what_was_learned_before(alloc: Global) -> Result<bool> {
 
 fn lists_what_it_learned<C: SqlConnection + Drop>(
     alloc: Global,
-    first: GatewayOver<RegistryOver<C>>,
+    first_gateway: GatewayOver<RegistryOver<C>>,
 ) -> bool {
-    let mut first = first;
-    let is_learned = reply_has_text(&first.order(b"add 01800ABC D5-00-01"), ACCEPTED_LINE)
-        && reply_has_text(&first.order(b"add 00000001 D5-00-01"), SECOND_ACCEPTED_LINE);
-    let conn = first.close();
+    let mut first_gateway = first_gateway;
+    let is_learned = reply_has_text(
+        &first_gateway.order(b"add 01800ABC D5-00-01"),
+        ACCEPTED_LINE,
+    ) && reply_has_text(
+        &first_gateway.order(b"add 00000001 D5-00-01"),
+        SECOND_ACCEPTED_LINE,
+    );
+    let conn = first_gateway.close();
     if !conn.is_autocommit() {
         return false;
     }

@@ -16,11 +16,11 @@ const NO_LF: &[u8] = b"\\ no LF\n";
 
 pub(crate) fn run_cases(rt: &HostRuntime, report: &mut Report) -> Result<()> {
     for line in fs::read_to_string(rt, "rows.txt")?.lines() {
-        let is_well = match line.strip_suffix(" --explain") {
+        let is_correct = match line.strip_suffix(" --explain") {
             Some(name) => is_replayed(rt, name, true)?,
             None => is_replayed(rt, line, false)?,
         };
-        report.add_case(rt, line, is_well)?;
+        report.add_case(rt, line, is_correct)?;
     }
     Ok(())
 }
@@ -29,12 +29,12 @@ pub(crate) fn run_cases(rt: &HostRuntime, report: &mut Report) -> Result<()> {
 // one.
 fn is_replayed(rt: &HostRuntime, name: &str, explains: bool) -> Result<bool> {
     let alloc = rt.alloc();
-    let (script, wanted) = read_session(rt, name, explains)?;
-    let mut written = Vec::new(alloc);
+    let (script, expected_output) = read_session(rt, name, explains)?;
+    let mut output = Vec::new(alloc);
     let mut reader = OverRead::new(script.as_slice());
-    let mut writer = OverWrite::new(&mut written);
-    let done = replay_by_new_gateway(alloc, &mut reader, &mut writer, explains, MAX_READS)?;
-    Ok(done.is_ok() && written.as_slice() == wanted.as_slice())
+    let mut writer = OverWrite::new(&mut output);
+    let result = replay_by_new_gateway(alloc, &mut reader, &mut writer, explains, MAX_READS)?;
+    Ok(result.is_ok() && output.as_slice() == expected_output.as_slice())
 }
 
 // A session's script, and the expected output for it, with explanations or without.
@@ -46,7 +46,7 @@ pub(crate) fn read_session(
     let alloc = rt.alloc();
     let session = fs::read(rt, format!(in alloc; "{name}.session")?)?;
     let mut script = Vec::new(alloc);
-    let mut wanted = Vec::new(alloc);
+    let mut expected_output = Vec::new(alloc);
     for line in session.as_slice().split_inclusive(|byte| *byte == b'\n') {
         if let Some(text) = line.strip_prefix(b"> ".as_slice()) {
             script.extend_from_slice(text)?;
@@ -54,11 +54,11 @@ pub(crate) fn read_session(
             script.pop();
         } else if let Some(text) = line.strip_prefix(b"+ ".as_slice()) {
             if explains {
-                wanted.extend_from_slice(text)?;
+                expected_output.extend_from_slice(text)?;
             }
         } else {
-            wanted.extend_from_slice(line)?;
+            expected_output.extend_from_slice(line)?;
         }
     }
-    Ok((script, wanted))
+    Ok((script, expected_output))
 }

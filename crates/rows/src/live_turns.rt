@@ -68,7 +68,7 @@ pub(crate) fn run_cases(rt: &HostRuntime, report: &mut Report) -> Result<()> {
 /// How a gateway served some turns, and what it wrote.
 #[derive(Drop)]
 pub struct ServeEnd {
-    pub ended: Result<Summary, RunFault>,
+    pub run_result: Result<Summary, RunFault>,
     pub radio: Vec<u8>,
     pub desk: Vec<u8>,
 }
@@ -77,11 +77,11 @@ impl ServeEnd {
     // Whether it ended with this result, with these bytes on each side.
     fn ended_with(
         &self,
-        ended: Result<Summary, RunFault>,
+        run_result: Result<Summary, RunFault>,
         radio: &[&[u8]],
         desk: &[&[u8]],
     ) -> bool {
-        self.ended == ended
+        self.run_result == run_result
             && is_concatenation_of(&self.radio, radio)
             && is_concatenation_of(&self.desk, desk)
     }
@@ -89,14 +89,14 @@ impl ServeEnd {
 
 // Whether the bytes are these parts, one after the other.
 fn is_concatenation_of(bytes: &Vec<u8>, parts: &[&[u8]]) -> bool {
-    let mut rest = bytes.as_slice();
+    let mut remaining = bytes.as_slice();
     for part in parts {
-        match rest.strip_prefix(*part) {
-            Some(behind) => rest = behind,
+        match remaining.strip_prefix(*part) {
+            Some(remaining_after) => remaining = remaining_after,
             None => return false,
         }
     }
-    rest.is_empty()
+    remaining.is_empty()
 }
 
 // Serves turns by a new gateway, with writers that take seven bytes at a call and fail at these calls.
@@ -114,13 +114,13 @@ fn serve(
 
 // Serves two turns with explanations: a packet and two orders, and then a query. The writers take at most this many
 // bytes at a call, and that of the desk fails at this call.
-fn serve_explained(alloc: Global, most: usize, desk_fails_at: usize) -> Result<ServeEnd> {
+fn serve_explained(alloc: Global, max_len: usize, desk_fails_at: usize) -> Result<ServeEnd> {
     let mut gateway = new_gateway(alloc)?;
     let serial = [CONTACT_PACKET, UTE_QUERY_PACKET];
     let desk = [b"learn on\nbase\n".as_slice()];
     let inputs = (PartReader::new(&serial, 0), PartReader::new(&desk, 0));
     let fails_at = (NEVER_FAILS, desk_fails_at);
-    serve_by(alloc, &mut gateway, inputs, true, 2, most, fails_at)
+    serve_by(alloc, &mut gateway, inputs, true, 2, max_len, fails_at)
 }
 
 // Serves turns by this gateway, with explanations or without, and with writers that take at most this many bytes at a
@@ -131,7 +131,7 @@ pub(crate) fn serve_by<S: DeviceStore>(
     inputs: (PartReader<'_>, PartReader<'_>),
     explains: bool,
     turns: u64,
-    most: usize,
+    max_len: usize,
     fails_at: (usize, usize),
 ) -> Result<ServeEnd> {
     if gateway.is_ready() {
@@ -140,20 +140,20 @@ pub(crate) fn serve_by<S: DeviceStore>(
     let (serial, desk) = inputs;
     let (radio_fails_at, desk_fails_at) = fails_at;
     let mut radio = Vec::new(alloc);
-    let mut printed = Vec::new(alloc);
-    let ended = live(
+    let mut desk_text = Vec::new(alloc);
+    let run_result = live(
         &mut OverRead::new(serial),
         &mut OverRead::new(desk),
-        &mut OverWrite::new(LimitedWriter::new(&mut radio, most, radio_fails_at)),
-        &mut OverWrite::new(LimitedWriter::new(&mut printed, most, desk_fails_at)),
+        &mut OverWrite::new(LimitedWriter::new(&mut radio, max_len, radio_fails_at)),
+        &mut OverWrite::new(LimitedWriter::new(&mut desk_text, max_len, desk_fails_at)),
         gateway,
         explains,
         turns,
     );
     Ok(ServeEnd {
-        ended,
+        run_result,
         radio,
-        desk: printed,
+        desk: desk_text,
     })
 }
 
@@ -175,13 +175,13 @@ fn summary_of(items: u64) -> Result<Summary, RunFault> {
 // In a turn the serial line comes first: its packet is counted before the status is reported, and a query before the
 // window is open is ignored.
 fn run_serial_before_desk(rt: &HostRuntime, report: &mut Report) -> Result<()> {
-    let served = serve_parts(rt.alloc(), &[CONTACT_PACKET], &[b"status\n".as_slice()], 1)?;
+    let serve_end = serve_parts(rt.alloc(), &[CONTACT_PACKET], &[b"status\n".as_slice()], 1)?;
     report.add_case(
         rt,
         "a packet before an order",
-        served.ended_with(summary_of(2), &[], &[STATUS_LINE]),
+        serve_end.ended_with(summary_of(2), &[], &[STATUS_LINE]),
     )?;
-    let served = serve_parts(
+    let serve_end = serve_parts(
         rt.alloc(),
         &[UTE_QUERY_PACKET],
         &[b"learn on\n".as_slice()],
@@ -190,7 +190,7 @@ fn run_serial_before_desk(rt: &HostRuntime, report: &mut Report) -> Result<()> {
     report.add_case(
         rt,
         "a query before its window",
-        served.ended_with(summary_of(2), &[], &[OK_LINE]),
+        serve_end.ended_with(summary_of(2), &[], &[OK_LINE]),
     )
 }
 
@@ -199,39 +199,43 @@ fn run_serial_before_desk(rt: &HostRuntime, report: &mut Report) -> Result<()> {
 fn run_radio_and_desk_outputs(rt: &HostRuntime, report: &mut Report) -> Result<()> {
     let alloc = rt.alloc();
     let desk = [b"learn on\r\nba".as_slice(), b"se\n"];
-    let served = serve_parts(alloc, &[b"".as_slice(), UTE_QUERY_PACKET], &desk, 2)?;
-    let is_well = served.ended_with(
+    let serve_end = serve_parts(alloc, &[b"".as_slice(), UTE_QUERY_PACKET], &desk, 2)?;
+    let is_correct = serve_end.ended_with(
         summary_of(3),
         &[UTE_REPLY_PACKET, BASE_ID_REQUEST],
         &[OK_LINE, UTE_TEACH_LINE, OK_LINE],
     );
-    report.add_case(rt, "a query answered by radio", is_well)?;
-    let served = serve(
+    report.add_case(rt, "a query answered by radio", is_correct)?;
+    let serve_end = serve(
         alloc,
         PartReader::new(&[], 1),
         PartReader::new(&[], 1),
         0,
         (1, 1),
     )?;
-    report.add_case(rt, "no turns", served.ended_with(summary_of(0), &[], &[]))
+    report.add_case(
+        rt,
+        "no turns",
+        serve_end.ended_with(summary_of(0), &[], &[]),
+    )
 }
 
 // A packet is explained before its own line. Explanations change neither the radio bytes nor the answers to orders.
 fn run_explanations(rt: &HostRuntime, report: &mut Report) -> Result<()> {
-    let served = serve_explained(rt.alloc(), 7, NEVER_FAILS)?;
-    let printed = [
+    let serve_end = serve_explained(rt.alloc(), 7, NEVER_FAILS)?;
+    let expected_text = [
         CONTACT_PACKET_LINE,
         OK_LINE,
         OK_LINE,
         UTE_QUERY_PACKET_LINE,
         UTE_TEACH_LINE,
     ];
-    let is_well = served.ended_with(
+    let is_correct = serve_end.ended_with(
         summary_of(4),
         &[BASE_ID_REQUEST, UTE_REPLY_PACKET],
-        &printed,
+        &expected_text,
     );
-    report.add_case(rt, "packets that are explained", is_well)
+    report.add_case(rt, "packets that are explained", is_correct)
 }
 
 // A packet may arrive in chunks, and bytes that are LF or digits have no special meaning on the serial line. A line of
@@ -244,8 +248,8 @@ fn run_lines_and_chunks(rt: &HostRuntime, report: &mut Report) -> Result<()> {
         &CONTACT_PACKET[10..],
     ];
     let desk = [b"add 01800ABC D5-00-01\n".as_slice(), b"S 00\nS", b"\n"];
-    let served = serve_parts(rt.alloc(), &serial, &desk, 3)?;
-    let is_well = served.ended_with(
+    let serve_end = serve_parts(rt.alloc(), &serial, &desk, 3)?;
+    let is_correct = serve_end.ended_with(
         summary_of(4),
         &[],
         &[
@@ -255,16 +259,16 @@ fn run_lines_and_chunks(rt: &HostRuntime, report: &mut Report) -> Result<()> {
             SYNTAX_ERROR_LINE,
         ],
     );
-    report.add_case(rt, "pieces and lines", is_well)?;
+    report.add_case(rt, "pieces and lines", is_correct)?;
     let is_dropped = drops_partial_line(rt.alloc())?;
     report.add_case(rt, "a line that is not ended", is_dropped)
 }
 
 fn drops_partial_line(alloc: Global) -> Result<bool> {
     let mut gateway = new_gateway(alloc)?;
-    let first = desk_after(alloc, &mut gateway, b"lea")?;
-    let second = desk_after(alloc, &mut gateway, b"rn on\n")?;
-    Ok(first.is_empty() && second.as_slice() == SYNTAX_ERROR_LINE)
+    let first_answer = desk_after(alloc, &mut gateway, b"lea")?;
+    let second_answer = desk_after(alloc, &mut gateway, b"rn on\n")?;
+    Ok(first_answer.is_empty() && second_answer.as_slice() == SYNTAX_ERROR_LINE)
 }
 
 // What the desk receives in one more turn, in which it sends these bytes and the serial line none.
@@ -276,28 +280,38 @@ fn desk_after<S: DeviceStore>(
     if gateway.is_ready() {
         bail!("a packet waits");
     }
-    let mut printed = Vec::new(alloc);
-    let ended = live(
+    let mut desk_text = Vec::new(alloc);
+    let run_result = live(
         &mut OverRead::new(b"".as_slice()),
         &mut OverRead::new(bytes),
         &mut OverWrite::new(Vec::new(alloc)),
-        &mut OverWrite::new(&mut printed),
+        &mut OverWrite::new(&mut desk_text),
         gateway,
         false,
         1,
     );
-    if ended.is_err() {
+    if run_result.is_err() {
         bail!("a turn failed");
     }
-    Ok(printed)
+    Ok(desk_text)
 }
 
 // Whether the desk receives this for 100 letters, this many more, and this end, across three reads.
-fn desk_receives(alloc: Global, length: usize, end: &[u8], wanted: &[u8]) -> Result<bool> {
+fn desk_receives(
+    alloc: Global,
+    length: usize,
+    line_end: &[u8],
+    expected_text: &[u8],
+) -> Result<bool> {
     let line = [b'x'; 201];
-    let (front, back) = line.split_at(100);
-    let served = serve_parts(alloc, &[], &[front, &back[..length.min(101)], end], 3)?;
-    Ok(served.ended_with(summary_of(1), &[], &[wanted]))
+    let (line_start, line_rest) = line.split_at(100);
+    let serve_end = serve_parts(
+        alloc,
+        &[],
+        &[line_start, &line_rest[..length.min(101)], line_end],
+        3,
+    )?;
+    Ok(serve_end.ended_with(summary_of(1), &[], &[expected_text]))
 }
 
 // A line's end does not count towards its 200 bytes.
@@ -328,8 +342,12 @@ fn run_line_lengths(rt: &HostRuntime, report: &mut Report) -> Result<()> {
             TOO_LONG_ERROR_LINE,
         ),
     ];
-    for (name, length, end, wanted) in cases {
-        report.add_case(rt, name, desk_receives(rt.alloc(), length, end, wanted)?)?;
+    for (name, length, line_end, expected_text) in cases {
+        report.add_case(
+            rt,
+            name,
+            desk_receives(rt.alloc(), length, line_end, expected_text)?,
+        )?;
     }
     Ok(())
 }
@@ -373,11 +391,11 @@ fn run_reads_that_fail(rt: &HostRuntime, report: &mut Report) -> Result<()> {
         ),
     ];
     for (name, fails_at, radio, desk) in cases {
-        let served = serve_query(rt.alloc(), fails_at, (NEVER_FAILS, NEVER_FAILS))?;
+        let serve_end = serve_query(rt.alloc(), fails_at, (NEVER_FAILS, NEVER_FAILS))?;
         report.add_case(
             rt,
             name,
-            served.ended_with(Err(RunFault::Read), radio, desk),
+            serve_end.ended_with(Err(RunFault::Read), radio, desk),
         )?;
     }
     Ok(())
@@ -388,19 +406,19 @@ fn run_reads_that_fail(rt: &HostRuntime, report: &mut Report) -> Result<()> {
 fn breaks_off_at(
     alloc: Global,
     fails_at: (usize, usize),
-    sent: usize,
-    printed: usize,
+    radio_len: usize,
+    desk_len: usize,
 ) -> Result<bool> {
-    let all = serve_query(alloc, (0, 0), (NEVER_FAILS, NEVER_FAILS))?;
-    let done = serve_query(alloc, (0, 0), fails_at)?;
+    let whole_end = serve_query(alloc, (0, 0), (NEVER_FAILS, NEVER_FAILS))?;
+    let broken_end = serve_query(alloc, (0, 0), fails_at)?;
     Ok(
-        all.ended_with(
+        whole_end.ended_with(
             summary_of(3),
             &[UTE_REPLY_PACKET, BASE_ID_REQUEST],
             &[OK_LINE, UTE_TEACH_LINE, OK_LINE],
-        ) && done.ended == Err(RunFault::Write)
-            && Some(done.radio.as_slice()) == all.radio.as_slice().get(..sent)
-            && Some(done.desk.as_slice()) == all.desk.as_slice().get(..printed),
+        ) && broken_end.run_result == Err(RunFault::Write)
+            && Some(broken_end.radio.as_slice()) == whole_end.radio.as_slice().get(..radio_len)
+            && Some(broken_end.desk.as_slice()) == whole_end.desk.as_slice().get(..desk_len),
     )
 }
 
@@ -410,7 +428,7 @@ fn breaks_off_at(
 // writes, the teach line twelve, the last of which has four, and the answer to `base` two.
 fn run_writes_that_fail(rt: &HostRuntime, report: &mut Report) -> Result<()> {
     let alloc = rt.alloc();
-    for (fails_at, sent, printed) in [
+    for (fails_at, radio_len, desk_len) in [
         (1, 0, 14),
         (2, 7, 14),
         (3, 14, 14),
@@ -419,29 +437,29 @@ fn run_writes_that_fail(rt: &HostRuntime, report: &mut Report) -> Result<()> {
         (6, 34, 95),
     ] {
         let name = format!(in alloc; "write {fails_at} to the serial line")?;
-        let is_well = breaks_off_at(alloc, (fails_at, NEVER_FAILS), sent, printed)?;
-        report.add_case(rt, name.as_str(), is_well)?;
+        let is_correct = breaks_off_at(alloc, (fails_at, NEVER_FAILS), radio_len, desk_len)?;
+        report.add_case(rt, name.as_str(), is_correct)?;
     }
     for fails_at in 1..=16 {
-        let (sent, printed) = match fails_at {
+        let (radio_len, desk_len) = match fails_at {
             1 | 2 => (0, 7 * (fails_at - 1)),
             3..=14 => (27, 14 + 7 * (fails_at - 3)),
             _ => (35, 95 + 7 * (fails_at - 15)),
         };
         let name = format!(in alloc; "write {fails_at} to the desk")?;
-        let is_well = breaks_off_at(alloc, (NEVER_FAILS, fails_at), sent, printed)?;
-        report.add_case(rt, name.as_str(), is_well)?;
+        let is_correct = breaks_off_at(alloc, (NEVER_FAILS, fails_at), radio_len, desk_len)?;
+        report.add_case(rt, name.as_str(), is_correct)?;
     }
     Ok(())
 }
 
 // With explanations, each write to the desk fails in turn. The mutant of `replays` prints `at 0, differs` here.
 fn run_explained_writes_that_fail(rt: &HostRuntime, report: &mut Report) -> Result<()> {
-    let wrong = first_wrong_explained(rt.alloc())?;
+    let first_wrong = first_wrong_explained(rt.alloc())?;
     report.add_first_wrong(
         rt,
         "each write to the desk that explains fails in turn",
-        wrong,
+        first_wrong,
     )
 }
 
@@ -458,11 +476,11 @@ fn first_wrong_explained(alloc: Global) -> Result<Option<usize>> {
     ];
     let mut radio = Vec::new(alloc);
     let mut desk = Vec::new(alloc);
-    for (sent, lines) in parts {
-        radio.extend_from_slice(sent)?;
+    for (radio_bytes, lines) in parts {
+        radio.extend_from_slice(radio_bytes)?;
         for byte in lines {
-            let served = serve_explained(alloc, 1, desk.len().saturating_add(1))?;
-            if !served.ended_with(
+            let serve_end = serve_explained(alloc, 1, desk.len().saturating_add(1))?;
+            if !serve_end.ended_with(
                 Err(RunFault::Write),
                 &[radio.as_slice()],
                 &[desk.as_slice()],
@@ -487,9 +505,9 @@ fn run_writers_that_take_nothing(rt: &HostRuntime, report: &mut Report) -> Resul
         &mut OverRead::new(b"base\n".as_slice()),
         &mut OverWrite::new(&mut desk),
     );
-    let ended = serve_by_new_gateway(alloc, serial, orders, 1)?;
-    let is_well = ended == Err(RunFault::Write) && desk.is_empty();
-    report.add_case(rt, "a serial line that takes nothing", is_well)?;
+    let run_result = serve_by_new_gateway(alloc, serial, orders, 1)?;
+    let is_correct = run_result == Err(RunFault::Write) && desk.is_empty();
+    report.add_case(rt, "a serial line that takes nothing", is_correct)?;
     let mut radio = Vec::new(alloc);
     let serial = (
         &mut OverRead::new(b"".as_slice()),
@@ -499,7 +517,7 @@ fn run_writers_that_take_nothing(rt: &HostRuntime, report: &mut Report) -> Resul
         &mut OverRead::new(b"base\n".as_slice()),
         &mut OverWrite::new(ZeroLengthWriter),
     );
-    let ended = serve_by_new_gateway(alloc, serial, orders, 1)?;
-    let is_well = ended == Err(RunFault::Write) && radio.as_slice() == BASE_ID_REQUEST;
-    report.add_case(rt, "a desk that takes nothing", is_well)
+    let run_result = serve_by_new_gateway(alloc, serial, orders, 1)?;
+    let is_correct = run_result == Err(RunFault::Write) && radio.as_slice() == BASE_ID_REQUEST;
+    report.add_case(rt, "a desk that takes nothing", is_correct)
 }

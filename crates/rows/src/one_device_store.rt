@@ -77,12 +77,13 @@ impl DeviceStore for OneDeviceStore {
 
     fn all(&mut self) -> Result<Vec<Device>, StoreFault> {
         self.check_that_it_answers()?;
-        let mut all = Vec::with_capacity(self.alloc, 1)?;
+        let mut devices = Vec::with_capacity(self.alloc, 1)?;
         if let Some(device) = &self.device {
-            all.push(device.copied())
+            devices
+                .push(device.copied())
                 .map_err(|_| StoreFault::from(AllocError))?;
         }
-        Ok(all)
+        Ok(devices)
     }
 }
 
@@ -114,15 +115,15 @@ const CASES: [(&str, bool, &[u8], &[u8]); 2] = [
 
 pub(crate) fn run_cases(rt: &HostRuntime, report: &mut Report) -> Result<()> {
     let alloc = rt.alloc();
-    for (name, answers, script, wanted) in CASES {
+    for (name, answers, script, expected_output) in CASES {
         let store = OneDeviceStore {
             alloc,
             device: None,
             answers,
         };
         let mut gateway = GatewayOver::new(alloc, store, BASE)?;
-        let written = replay_output_of(alloc, &mut gateway, script)?;
-        report.add_case(rt, name, written.as_slice() == wanted)?;
+        let output = replay_output_of(alloc, &mut gateway, script)?;
+        report.add_case(rt, name, output.as_slice() == expected_output)?;
     }
     Ok(())
 }

@@ -28,45 +28,45 @@ fn replay_has_result<R: Source>(
     alloc: Global,
     reader: &mut R,
     turns: u64,
-    wanted: Result<Summary, RunFault>,
+    expected_result: Result<Summary, RunFault>,
     text: &[u8],
 ) -> Result<bool> {
-    let mut out = Vec::new(alloc);
-    let mut writer = OverWrite::new(&mut out);
-    let done = replay_by_new_gateway(alloc, reader, &mut writer, false, turns)?;
-    Ok(done == wanted && out.as_slice() == text)
+    let mut output = Vec::new(alloc);
+    let mut writer = OverWrite::new(&mut output);
+    let result = replay_by_new_gateway(alloc, reader, &mut writer, false, turns)?;
+    Ok(result == expected_result && output.as_slice() == text)
 }
 
 // Whether this is written for a script that is replayed to its end.
 pub(crate) fn replay_writes(alloc: Global, script: &[u8], text: &[u8]) -> Result<bool> {
-    let mut out = Vec::new(alloc);
+    let mut output = Vec::new(alloc);
     let mut reader = OverRead::new(script);
-    let mut writer = OverWrite::new(&mut out);
-    let done = replay_by_new_gateway(alloc, &mut reader, &mut writer, false, 9)?;
-    Ok(done.is_ok() && out.as_slice() == text)
+    let mut writer = OverWrite::new(&mut output);
+    let result = replay_by_new_gateway(alloc, &mut reader, &mut writer, false, 9)?;
+    Ok(result.is_ok() && output.as_slice() == text)
 }
 
 // The end of the script is a read of its own.
 fn run_read_limits(rt: &HostRuntime, report: &mut Report) -> Result<()> {
     let script = b"\n".as_slice();
     let too_many = Err(RunFault::TooManyTurns);
-    let is_well = replay_has_result(
+    let is_correct = replay_has_result(
         rt.alloc(),
         &mut OverRead::new(script),
         1,
         too_many,
         SYNTAX_ERROR_LINE,
     )?;
-    report.add_case(rt, "a turn too few", is_well)?;
-    let one = Ok(Summary { items: 1 });
-    let is_well = replay_has_result(
+    report.add_case(rt, "a turn too few", is_correct)?;
+    let one_input = Ok(Summary { items: 1 });
+    let is_correct = replay_has_result(
         rt.alloc(),
         &mut OverRead::new(script),
         2,
-        one,
+        one_input,
         SYNTAX_ERROR_LINE,
     )?;
-    report.add_case(rt, "just enough turns", is_well)
+    report.add_case(rt, "just enough turns", is_correct)
 }
 
 const CONTACT_READING: &[u8] =
@@ -78,35 +78,35 @@ const CONTACT_READING: &[u8] =
 fn run_input_counts(rt: &HostRuntime, report: &mut Report) -> Result<()> {
     let script =
         b"add 01800ABC D5-00-01\nS 55000707017AD50901800ABC0001FFFFFFFF2D001F\n".as_slice();
-    let two = Ok(Summary { items: 2 });
-    let is_well = replay_has_result(
+    let two_inputs = Ok(Summary { items: 2 });
+    let is_correct = replay_has_result(
         rt.alloc(),
         &mut OverRead::new(script),
         2,
-        two,
+        two_inputs,
         CONTACT_READING,
     )?;
-    report.add_case(rt, "two items", is_well)?;
+    report.add_case(rt, "two items", is_correct)?;
     let script =
         b"add 01800abc d5-00-01\r\nS 55000707017ad50901800A\nS BC0001ffffffff2d001f".as_slice();
-    let is_well = replay_has_result(
+    let is_correct = replay_has_result(
         rt.alloc(),
         &mut OverRead::new(script),
         2,
-        two,
+        two_inputs,
         CONTACT_READING,
     )?;
-    report.add_case(rt, "two items in three lines", is_well)
+    report.add_case(rt, "two items in three lines", is_correct)
 }
 
 // A line of this many letters with this end. With 100 bytes of a chunk before it, it is split between two reads.
-fn line_of(alloc: Global, length: usize, end: &[u8]) -> Result<Vec<u8>> {
+fn line_of(alloc: Global, length: usize, line_end: &[u8]) -> Result<Vec<u8>> {
     let mut script = Vec::new(alloc);
     script.extend_from_slice(b"S ")?;
     script.extend_from_slice(&[b'0'; 98])?;
     script.extend_from_slice(b"\n")?;
     script.extend_from_slice(&[b'x'; 201][..length.min(201)])?;
-    script.extend_from_slice(end)?;
+    script.extend_from_slice(line_end)?;
     Ok(script)
 }
 
@@ -120,12 +120,12 @@ fn run_line_lengths(rt: &HostRuntime, report: &mut Report) -> Result<()> {
         ("201 bytes, CR and LF", 201, b"\r\n", TOO_LONG_ERROR_LINE),
         ("200 bytes and CR", 200, b"\r", TOO_LONG_ERROR_LINE),
     ];
-    for (name, length, end, wanted) in cases {
-        let script = line_of(rt.alloc(), length, end)?;
+    for (name, length, line_end, expected_output) in cases {
+        let script = line_of(rt.alloc(), length, line_end)?;
         report.add_case(
             rt,
             name,
-            replay_writes(rt.alloc(), script.as_slice(), wanted)?,
+            replay_writes(rt.alloc(), script.as_slice(), expected_output)?,
         )?;
     }
     Ok(())
@@ -146,46 +146,50 @@ fn run_line_ends(rt: &HostRuntime, report: &mut Report) -> Result<()> {
         ("LF alone", b"\n", SYNTAX_ERROR_LINE),
         ("CR and LF alone", b"\r\n", SYNTAX_ERROR_LINE),
     ];
-    for (name, script, wanted) in cases {
-        report.add_case(rt, name, replay_writes(rt.alloc(), script, wanted)?)?;
+    for (name, script, expected_output) in cases {
+        report.add_case(
+            rt,
+            name,
+            replay_writes(rt.alloc(), script, expected_output)?,
+        )?;
     }
     Ok(())
 }
 
 fn run_failing_reads(rt: &HostRuntime, report: &mut Report) -> Result<()> {
     let alloc = rt.alloc();
-    let one = Ok(Summary { items: 1 });
+    let one_input = Ok(Summary { items: 1 });
     let script = [b"\n".as_slice()];
     let mut reader = OverRead::new(PartReader::new(&script, 0));
-    let is_well = replay_has_result(alloc, &mut reader, 2, one, SYNTAX_ERROR_LINE)?;
-    report.add_case(rt, "a read of 256 bytes", is_well)?;
+    let is_correct = replay_has_result(alloc, &mut reader, 2, one_input, SYNTAX_ERROR_LINE)?;
+    report.add_case(rt, "a read of 256 bytes", is_correct)?;
     let script = [b"\nadd 01800ABC D5".as_slice()];
     let mut reader = OverRead::new(PartReader::new(&script, 2));
-    let is_well = replay_has_result(
+    let is_correct = replay_has_result(
         alloc,
         &mut reader,
         9,
         Err(RunFault::Read),
         SYNTAX_ERROR_LINE,
     )?;
-    report.add_case(rt, "a read that fails", is_well)
+    report.add_case(rt, "a read that fails", is_correct)
 }
 
 fn run_failing_writes(rt: &HostRuntime, report: &mut Report) -> Result<()> {
     let alloc = rt.alloc();
     let script = b"\n\n".as_slice();
-    let mut taken = Vec::new(alloc);
-    let mut writer = OverWrite::new(LimitedWriter::new(&mut taken, 1, 16));
-    let done = replay_by_new_gateway(alloc, &mut OverRead::new(script), &mut writer, false, 9)?;
-    let is_well = done == Err(RunFault::Write)
-        && taken.as_slice() == b"{\"error\":\"synta".as_slice();
-    report.add_case(rt, "a write that fails", is_well)?;
+    let mut output = Vec::new(alloc);
+    let mut writer = OverWrite::new(LimitedWriter::new(&mut output, 1, 16));
+    let result = replay_by_new_gateway(alloc, &mut OverRead::new(script), &mut writer, false, 9)?;
+    let is_correct = result == Err(RunFault::Write)
+        && output.as_slice() == b"{\"error\":\"synta".as_slice();
+    report.add_case(rt, "a write that fails", is_correct)?;
     let mut writer = OverWrite::new(ZeroLengthWriter);
-    let done = replay_by_new_gateway(alloc, &mut OverRead::new(script), &mut writer, false, 9)?;
+    let result = replay_by_new_gateway(alloc, &mut OverRead::new(script), &mut writer, false, 9)?;
     report.add_case(
         rt,
         "a writer that takes nothing",
-        done == Err(RunFault::Write),
+        result == Err(RunFault::Write),
     )
 }
 
@@ -193,23 +197,33 @@ fn run_failing_writes(rt: &HostRuntime, report: &mut Report) -> Result<()> {
 // explains a packet. It prints `at 83, differs`.
 fn run_explained_failing_writes(rt: &HostRuntime, report: &mut Report) -> Result<()> {
     let (script, text) = read_session(rt, "every-kind-of-item", true)?;
-    let wrong = first_wrong_explained(rt.alloc(), script.as_slice(), text.as_slice())?;
+    let first_wrong = first_wrong_explained(rt.alloc(), script.as_slice(), text.as_slice())?;
     report.add_first_wrong(
         rt,
         "each write of a replay that explains fails in turn",
-        wrong,
+        first_wrong,
     )
 }
 
 // Returns the first number of bytes written before a failure for which the script's text with explanations does not
 // break off there.
 fn first_wrong_explained(alloc: Global, script: &[u8], text: &[u8]) -> Result<Option<usize>> {
-    for out in 0..text.len() {
-        let mut taken = Vec::new(alloc);
-        let mut writer = OverWrite::new(LimitedWriter::new(&mut taken, 1, out.saturating_add(1)));
-        let done = replay_by_new_gateway(alloc, &mut OverRead::new(script), &mut writer, true, 99)?;
-        if done != Err(RunFault::Write) || Some(taken.as_slice()) != text.get(..out) {
-            return Ok(Some(out));
+    for output_len in 0..text.len() {
+        let mut output = Vec::new(alloc);
+        let mut writer = OverWrite::new(LimitedWriter::new(
+            &mut output,
+            1,
+            output_len.saturating_add(1),
+        ));
+        let result = replay_by_new_gateway(
+            alloc,
+            &mut OverRead::new(script),
+            &mut writer,
+            true,
+            99,
+        )?;
+        if result != Err(RunFault::Write) || Some(output.as_slice()) != text.get(..output_len) {
+            return Ok(Some(output_len));
         }
     }
     Ok(None)

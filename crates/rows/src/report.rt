@@ -4,19 +4,24 @@ use anyhow::Result;
 /// Reports each case, and keeps whether all were correct.
 #[derive(Drop)]
 pub struct Report {
-    all_well: bool,
+    all_correct: bool,
 }
 
 impl Report {
     pub(crate) fn new() -> Report {
-        Report { all_well: true }
+        Report { all_correct: true }
     }
 
     // Reports whether the case of this name is correct.
-    pub(crate) fn add_case(&mut self, rt: &HostRuntime, name: &str, is_well: bool) -> Result<()> {
-        let verdict = if is_well { "ok" } else { "differs" };
+    pub(crate) fn add_case(
+        &mut self,
+        rt: &HostRuntime,
+        name: &str,
+        is_correct: bool,
+    ) -> Result<()> {
+        let verdict = if is_correct { "ok" } else { "differs" };
         println!(rt; "{name} {verdict}")?;
-        self.all_well &= is_well;
+        self.all_correct &= is_correct;
         Ok(())
     }
 
@@ -25,9 +30,9 @@ impl Report {
         &mut self,
         rt: &HostRuntime,
         name: &str,
-        wrong: Option<usize>,
+        first_wrong: Option<usize>,
     ) -> Result<()> {
-        match wrong {
+        match first_wrong {
             None => self.add_case(rt, name, true),
             Some(number) => {
                 let title = format!(in rt.alloc(); "{name}, at {number},")?;
@@ -37,6 +42,6 @@ impl Report {
     }
 
     pub(crate) fn are_all_correct(&self) -> bool {
-        self.all_well
+        self.all_correct
     }
 }

@@ -53,19 +53,19 @@ fn push_header(
 // A packet whose last byte is its CRC XORed with `wrong`: 0 for a correct one.
 fn push_packet(
     bytes: &mut Vec<u8>,
-    draws: &mut RandomNumbers,
+    random_numbers: &mut RandomNumbers,
     data_len: u64,
     opt_len: u64,
-    wrong: u8,
+    crc_error: u8,
 ) -> Result<(), AllocError> {
-    let kind = draws.random_byte();
+    let kind = random_numbers.random_byte();
     push_header(bytes, data_len, opt_len, kind)?;
     let start = bytes.len();
     for _ in 0..data_len.saturating_add(opt_len) {
-        bytes.push(draws.random_data_byte())?;
+        bytes.push(random_numbers.random_data_byte())?;
     }
     let check = check8(bytes.get(start..).unwrap_or(&[]));
-    bytes.push(check ^ wrong)?;
+    bytes.push(check ^ crc_error)?;
     Ok(())
 }
 
@@ -73,34 +73,44 @@ fn push_packet(
 // of one.
 fn push_part(
     bytes: &mut Vec<u8>,
-    draws: &mut RandomNumbers,
+    random_numbers: &mut RandomNumbers,
     data_len: u64,
     opt_len: u64,
 ) -> Result<(), AllocError> {
-    match draws.random_below(8) {
-        0 => bytes.push(draws.random_byte())?,
+    match random_numbers.random_below(8) {
+        0 => bytes.push(random_numbers.random_byte())?,
         1 => bytes.push(0x55)?,
         2 => {
-            let kind = draws.random_byte();
+            let kind = random_numbers.random_byte();
             push_header(bytes, data_len, opt_len, kind)?;
         }
-        3 => push_packet(bytes, draws, data_len, opt_len, 1)?,
+        3 => push_packet(bytes, random_numbers, data_len, opt_len, 1)?,
         4 => {
-            push_packet(bytes, draws, data_len, opt_len, 0)?;
-            let cut = bytes.len() as u64;
-            let kept = cut.saturating_sub(draws.random_below(20).min(data_len.saturating_add(6)));
-            bytes.truncate(kept as usize);
+            push_packet(bytes, random_numbers, data_len, opt_len, 0)?;
+            let cut_at = bytes.len() as u64;
+            let kept_len = cut_at.saturating_sub(
+                random_numbers
+                    .random_below(20)
+                    .min(data_len.saturating_add(6)),
+            );
+            bytes.truncate(kept_len as usize);
         }
-        _ => push_packet(bytes, draws, data_len, opt_len, 0)?,
+        _ => push_packet(bytes, random_numbers, data_len, opt_len, 0)?,
     }
     Ok(())
 }
 
 // Up to eleven short parts.
-fn push_short_stream(bytes: &mut Vec<u8>, draws: &mut RandomNumbers) -> Result<(), AllocError> {
-    for _ in 0..draws.random_below(12) {
-        let (data_len, opt_len) = (draws.random_below(9), draws.random_below(3));
-        push_part(bytes, draws, data_len, opt_len)?;
+fn push_short_stream(
+    bytes: &mut Vec<u8>,
+    random_numbers: &mut RandomNumbers,
+) -> Result<(), AllocError> {
+    for _ in 0..random_numbers.random_below(12) {
+        let (data_len, opt_len) = (
+            random_numbers.random_below(9),
+            random_numbers.random_below(3),
+        );
+        push_part(bytes, random_numbers, data_len, opt_len)?;
     }
     Ok(())
 }
@@ -108,18 +118,24 @@ fn push_short_stream(bytes: &mut Vec<u8>, draws: &mut RandomNumbers) -> Result<(
 // Up to five parts with at most this much data, many of them with exactly this much, and short packets among them.
 fn push_long_stream(
     bytes: &mut Vec<u8>,
-    draws: &mut RandomNumbers,
+    random_numbers: &mut RandomNumbers,
     most_data: u64,
 ) -> Result<(), AllocError> {
-    for _ in 0..draws.random_below(6) {
-        let (data_len, opt_len) = match draws.random_below(3) {
+    for _ in 0..random_numbers.random_below(6) {
+        let (data_len, opt_len) = match random_numbers.random_below(3) {
             0 => (most_data, 255),
-            1 => (draws.random_below(most_data), draws.random_below(256)),
-            _ => (draws.random_below(200), draws.random_below(8)),
+            1 => (
+                random_numbers.random_below(most_data),
+                random_numbers.random_below(256),
+            ),
+            _ => (
+                random_numbers.random_below(200),
+                random_numbers.random_below(8),
+            ),
         };
-        push_part(bytes, draws, data_len, opt_len)?;
-        for _ in 0..draws.random_below(4) {
-            push_packet(bytes, draws, 7, 7, 0)?;
+        push_part(bytes, random_numbers, data_len, opt_len)?;
+        for _ in 0..random_numbers.random_below(4) {
+            push_packet(bytes, random_numbers, 7, 7, 0)?;
         }
     }
     Ok(())
@@ -129,16 +145,16 @@ fn push_long_stream(
 // announce.
 fn push_headers_at_distance(
     bytes: &mut Vec<u8>,
-    draws: &mut RandomNumbers,
+    random_numbers: &mut RandomNumbers,
     distance: u64,
 ) -> Result<(), AllocError> {
     push_header(bytes, 500, 255, 1)?;
     for _ in 0..distance {
-        bytes.push(draws.random_data_byte())?;
+        bytes.push(random_numbers.random_data_byte())?;
     }
     push_header(bytes, 500, 255, 1)?;
     for _ in 0..37_u32 {
-        push_packet(bytes, draws, 7, 7, 0)?;
+        push_packet(bytes, random_numbers, 7, 7, 0)?;
     }
     Ok(())
 }
@@ -147,39 +163,39 @@ fn push_headers_at_distance(
 // byte of the longest packet.
 fn push_headers_around_end_of_ring(
     bytes: &mut Vec<u8>,
-    draws: &mut RandomNumbers,
+    random_numbers: &mut RandomNumbers,
 ) -> Result<(), AllocError> {
-    let data_len = 65_535_u64.saturating_sub(draws.random_below(1_500));
-    push_packet(bytes, draws, data_len, 255, 0)?;
-    let distance = draws.random_below(800);
-    push_headers_at_distance(bytes, draws, distance)
+    let data_len = 65_535_u64.saturating_sub(random_numbers.random_below(1_500));
+    push_packet(bytes, random_numbers, data_len, 255, 0)?;
+    let distance = random_numbers.random_below(800);
+    push_headers_at_distance(bytes, random_numbers, distance)
 }
 
 // The same after two packets that end up to 1,500 bytes before the end of the memory for CRCs, which has capacity for
 // those of 8,192 bytes more.
 fn push_headers_at_end_of_crcs(
     bytes: &mut Vec<u8>,
-    draws: &mut RandomNumbers,
+    random_numbers: &mut RandomNumbers,
 ) -> Result<(), AllocError> {
-    push_packet(bytes, draws, 65_535, 255, 0)?;
-    let data_len = 7_930_u64.saturating_sub(draws.random_below(1_500));
-    push_packet(bytes, draws, data_len, 255, 0)?;
-    let distance = draws.random_below(800);
-    push_headers_at_distance(bytes, draws, distance)
+    push_packet(bytes, random_numbers, 65_535, 255, 0)?;
+    let data_len = 7_930_u64.saturating_sub(random_numbers.random_below(1_500));
+    push_packet(bytes, random_numbers, data_len, 255, 0)?;
+    let distance = random_numbers.random_below(800);
+    push_headers_at_distance(bytes, random_numbers, distance)
 }
 
 fn push_stream(
     bytes: &mut Vec<u8>,
-    draws: &mut RandomNumbers,
-    number: u64,
+    random_numbers: &mut RandomNumbers,
+    stream_number: u64,
 ) -> Result<(), AllocError> {
-    match number {
-        0..800 => push_headers_at_distance(bytes, draws, number),
-        800..805 => push_headers_around_end_of_ring(bytes, draws),
-        805..810 => push_headers_at_end_of_crcs(bytes, draws),
-        810..842 => push_long_stream(bytes, draws, 65_535),
-        842..1_700 => push_long_stream(bytes, draws, 1_000),
-        _ => push_short_stream(bytes, draws),
+    match stream_number {
+        0..800 => push_headers_at_distance(bytes, random_numbers, stream_number),
+        800..805 => push_headers_around_end_of_ring(bytes, random_numbers),
+        805..810 => push_headers_at_end_of_crcs(bytes, random_numbers),
+        810..842 => push_long_stream(bytes, random_numbers, 65_535),
+        842..1_700 => push_long_stream(bytes, random_numbers, 1_000),
+        _ => push_short_stream(bytes, random_numbers),
     }
 }
 
@@ -199,13 +215,13 @@ fn framers_agree(
     let mut framer = Framer::new(alloc)?;
     let mut plain = PlainFramer::new(alloc);
     let mut buffer = PacketBuf::new(alloc)?;
-    let mut wanted = Vec::new(alloc);
-    for b in bytes {
+    let mut expected_packet = Vec::new(alloc);
+    for byte in bytes {
         if framer.is_ready() {
             return Ok(false);
         }
-        framer.push(*b);
-        plain.push(*b)?;
+        framer.push(*byte);
+        plain.push(*byte)?;
         for _ in 0..bytes.len() {
             let ready = plain.is_ready();
             if framer.is_ready() != ready || framer.take(&mut buffer) != ready {
@@ -214,12 +230,12 @@ fn framers_agree(
             if !ready {
                 break;
             }
-            let _taken = plain.take(&mut wanted)?;
-            if buffer.packet() != read_packet(&wanted) {
+            let _taken = plain.take(&mut expected_packet)?;
+            if buffer.packet() != read_packet(&expected_packet) {
                 return Ok(false);
             }
             counts.packets = counts.packets.saturating_add(1);
-            if wanted.len() == 65_797 {
+            if expected_packet.len() == 65_797 {
                 counts.longest = counts.longest.saturating_add(1);
             }
         }
@@ -230,24 +246,24 @@ fn framers_agree(
 #[test]
 fn finds_packets_like_the_plain_framer(rt: HostRuntime) -> Result<(), Fail> {
     let alloc = rt.alloc();
-    let mut draws = RandomNumbers { state: 1 };
+    let mut random_numbers = RandomNumbers { state: 1 };
     let mut counts = FoundPackets {
         packets: 0,
         longest: 0,
     };
     let mut bytes = Vec::new(alloc);
-    let mut found = Vec::new(alloc);
+    let mut packet_counts = Vec::new(alloc);
     for stream in 0..10_000_u64 {
         bytes.clear();
-        push_stream(&mut bytes, &mut draws, stream)?;
-        let before = counts.packets;
-        let same = framers_agree(alloc, &bytes, &mut counts)?;
-        assert_eq!(rt; (stream, same), (stream, true));
+        push_stream(&mut bytes, &mut random_numbers, stream)?;
+        let packets_before = counts.packets;
+        let are_same = framers_agree(alloc, &bytes, &mut counts)?;
+        assert_eq!(rt; (stream, are_same), (stream, true));
         let size = 1 + (stream % 300) as usize;
-        found.clear();
-        let in_runs = feed_chunks(alloc, &bytes, size, &mut found)?;
+        packet_counts.clear();
+        let in_runs = feed_chunks(alloc, &bytes, size, &mut packet_counts)?;
         assert_eq!(rt;
-            (stream, before.saturating_add(in_runs)),
+            (stream, packets_before.saturating_add(in_runs)),
             (stream, counts.packets)
         );
     }

@@ -11,31 +11,36 @@ enum StreamFront {
     Whole(usize),
 }
 
-fn byte_or(b: &[u8], i: usize, other: u8) -> u8 {
-    b.get(i).copied().unwrap_or(other)
+fn byte_or(bytes: &[u8], index: usize, default: u8) -> u8 {
+    bytes.get(index).copied().unwrap_or(default)
 }
 
 // Whether a packet may begin with these bytes, at most five. Missing bytes are assumed to be valid.
-fn may_begin_packet(b: &[u8]) -> bool {
-    byte_or(b, 0, 0x55) == 0x55 && [byte_or(b, 1, 0), byte_or(b, 2, 0), byte_or(b, 3, 1)] != [0; 3]
+fn may_begin_packet(bytes: &[u8]) -> bool {
+    byte_or(bytes, 0, 0x55) == 0x55
+        && [
+            byte_or(bytes, 1, 0),
+            byte_or(bytes, 2, 0),
+            byte_or(bytes, 3, 1),
+        ] != [0; 3]
 }
 
-fn front_of_stream(b: &[u8]) -> StreamFront {
-    let Some((first, rest)) = b.split_first_chunk::<6>() else {
-        return if may_begin_packet(b) {
+fn front_of_stream(bytes: &[u8]) -> StreamFront {
+    let Some((first_bytes, bytes_after)) = bytes.split_first_chunk::<6>() else {
+        return if may_begin_packet(bytes) {
             StreamFront::Partial
         } else {
             StreamFront::Never
         };
     };
-    let Ok(header) = read_header(first) else {
+    let Ok(header) = read_header(first_bytes) else {
         return StreamFront::Never;
     };
     let len = header.data_len as usize + header.opt_len as usize;
-    if rest.len() <= len {
+    if bytes_after.len() <= len {
         return StreamFront::Partial;
     }
-    if rest[len] == check8(&rest[..len]) {
+    if bytes_after[len] == check8(&bytes_after[..len]) {
         StreamFront::Whole(len + 7)
     } else {
         StreamFront::Never
@@ -43,20 +48,20 @@ fn front_of_stream(b: &[u8]) -> StreamFront {
 }
 
 // How many bytes to skip until a packet may begin.
-fn bytes_to_skip(b: &[u8]) -> usize {
-    for start in 0..b.len() {
-        match front_of_stream(&b[start..]) {
+fn bytes_to_skip(bytes: &[u8]) -> usize {
+    for start in 0..bytes.len() {
+        match front_of_stream(&bytes[start..]) {
             StreamFront::Never => {}
             _ => return start,
         }
     }
-    b.len()
+    bytes.len()
 }
 
-fn drop_front_bytes(bytes: &mut Vec<u8>, n: usize) {
-    let n = n.min(bytes.len());
-    if n > 0 {
-        drop(bytes.drain(..n));
+fn drop_front_bytes(bytes: &mut Vec<u8>, count: usize) {
+    let count = count.min(bytes.len());
+    if count > 0 {
+        drop(bytes.drain(..count));
     }
 }
 
@@ -73,8 +78,8 @@ impl PlainFramer {
     }
 
     fn resynchronize(&mut self) {
-        let n = bytes_to_skip(&self.bytes);
-        drop_front_bytes(&mut self.bytes, n);
+        let skipped_count = bytes_to_skip(&self.bytes);
+        drop_front_bytes(&mut self.bytes, skipped_count);
     }
 
     pub(crate) fn is_ready(&self) -> bool {
@@ -84,20 +89,20 @@ impl PlainFramer {
         }
     }
 
-    pub(crate) fn push(&mut self, b: u8) -> Result<(), AllocError> {
-        self.bytes.push(b)?;
+    pub(crate) fn push(&mut self, byte: u8) -> Result<(), AllocError> {
+        self.bytes.push(byte)?;
         self.resynchronize();
         Ok(())
     }
 
     // Moves the whole packet into `out`, and returns whether there was one.
-    pub(crate) fn take(&mut self, out: &mut Vec<u8>) -> Result<bool, AllocError> {
-        let StreamFront::Whole(n) = front_of_stream(&self.bytes) else {
+    pub(crate) fn take(&mut self, packet: &mut Vec<u8>) -> Result<bool, AllocError> {
+        let StreamFront::Whole(packet_len) = front_of_stream(&self.bytes) else {
             return Ok(false);
         };
-        out.clear();
-        out.extend_from_slice(&self.bytes[..n.min(self.bytes.len())])?;
-        drop_front_bytes(&mut self.bytes, n);
+        packet.clear();
+        packet.extend_from_slice(&self.bytes[..packet_len.min(self.bytes.len())])?;
+        drop_front_bytes(&mut self.bytes, packet_len);
         self.resynchronize();
         Ok(true)
     }

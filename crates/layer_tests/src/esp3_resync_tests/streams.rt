@@ -38,21 +38,21 @@ fn feed_runs(
     framer: &mut Framer,
     buffer: &mut PacketBuf,
     bytes: &[u8],
-    found: &mut Vec<u8>,
+    packets_found: &mut Vec<u8>,
 ) -> Result<u32, Fail> {
-    let mut rest = bytes;
+    let mut remaining = bytes;
     let mut packets: u32 = 0;
     for _ in 0..=MAX_ITERATIONS {
         if !framer.is_ready() {
-            let count = framer.push_until_ready(rest);
-            rest = &rest[count..];
+            let count = framer.push_until_ready(remaining);
+            remaining = &remaining[count..];
         }
         if let Some(packet) = framer.take_packet(buffer) {
-            found.push(packet.kind)?;
-            found.extend_from_slice(packet.body)?;
-            found.extend_from_slice(packet.opt)?;
+            packets_found.push(packet.kind)?;
+            packets_found.extend_from_slice(packet.body)?;
+            packets_found.extend_from_slice(packet.opt)?;
             packets = packets.saturating_add(1);
-        } else if rest.is_empty() {
+        } else if remaining.is_empty() {
             break;
         }
     }
@@ -64,16 +64,16 @@ pub(crate) fn feed_chunks(
     alloc: Global,
     bytes: &[u8],
     size: usize,
-    found: &mut Vec<u8>,
+    packets_found: &mut Vec<u8>,
 ) -> Result<u32, Fail>
     requires { 0 < size }
 {
     let mut framer = Framer::new(alloc)?;
     let mut buffer = PacketBuf::new(alloc)?;
     let mut packets: u32 = 0;
-    for piece in bytes.chunks(size) {
-        let more = feed_runs(&mut framer, &mut buffer, piece, found)?;
-        packets = packets.saturating_add(more);
+    for chunk in bytes.chunks(size) {
+        let chunk_packets = feed_runs(&mut framer, &mut buffer, chunk, packets_found)?;
+        packets = packets.saturating_add(chunk_packets);
     }
     Ok(packets)
 }
@@ -81,12 +81,12 @@ pub(crate) fn feed_chunks(
 // The chunks have every length, so some end within noise, a header, data or a CRC.
 #[test]
 fn packets_in_runs(rt: HostRuntime) -> Result<(), Fail> {
-    let mut found = Vec::new(rt.alloc());
+    let mut packets_found = Vec::new(rt.alloc());
     for size in 1..=TWO_PACKETS.len() {
-        found.clear();
-        let packets = feed_chunks(rt.alloc(), &TWO_PACKETS, size, &mut found)?;
+        packets_found.clear();
+        let packets = feed_chunks(rt.alloc(), &TWO_PACKETS, size, &mut packets_found)?;
         assert_eq!(rt;
-            (packets, found.as_slice()),
+            (packets, packets_found.as_slice()),
             (2, TYPES_AND_DATA.as_slice()),
             "pieces of {size}"
         );
@@ -106,11 +106,11 @@ const BUFFERED_PACKET_CASES: [(usize, usize, u8, &[u8]); 3] = [
 fn buffer_keeps_last_packet(rt: HostRuntime) -> Result<(), Fail> {
     let mut framer = Framer::new(rt.alloc())?;
     let mut buffer = PacketBuf::new(rt.alloc())?;
-    let mut found = Vec::new(rt.alloc());
+    let mut packets_found = Vec::new(rt.alloc());
     assert!(rt; buffer.packet().is_none());
     for (start, end, kind, body) in BUFFERED_PACKET_CASES {
-        let part = TWO_PACKETS.get(start..end).ok_or("no such part")?;
-        let _packets = feed_runs(&mut framer, &mut buffer, part, &mut found)?;
+        let stream_part = TWO_PACKETS.get(start..end).ok_or("no such part")?;
+        let _packets = feed_runs(&mut framer, &mut buffer, stream_part, &mut packets_found)?;
         let packet = buffer.packet().ok_or("no packet")?;
         assert_eq!(rt; (packet.kind, packet.body), (kind, body), "{start}");
     }
@@ -129,12 +129,12 @@ const BORROWED_PACKET_CASES: [(usize, usize, Option<(u8, usize)>); 4] = [
 #[test]
 fn front_packets_are_borrowed(rt: HostRuntime) -> Result<(), Fail> {
     let mut framer = Framer::new(rt.alloc())?;
-    for (start, end, wanted) in BORROWED_PACKET_CASES {
-        let part = TWO_PACKETS.get(start..end).ok_or("no such part")?;
-        let lent = framer
-            .borrow_packet(part)
+    for (start, end, expected_packet) in BORROWED_PACKET_CASES {
+        let stream_part = TWO_PACKETS.get(start..end).ok_or("no such part")?;
+        let is_lent = framer
+            .borrow_packet(stream_part)
             .map(|(packet, len)| (packet.kind, len));
-        assert_eq!(rt; lent, wanted, "{start} to {end}");
+        assert_eq!(rt; is_lent, expected_packet, "{start} to {end}");
     }
     let (packet, _len) = framer.borrow_packet(&CONTACT_PACKET).ok_or("no packet")?;
     assert_eq!(rt; (packet.body, packet.opt), CONTACT_DATA.split_at(7));

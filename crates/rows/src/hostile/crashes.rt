@@ -45,12 +45,12 @@ enum RunEnd {
 #[derive(Clone, Copy)]
 struct RunSetup<'a> {
     // The script.
-    items: &'a [ScriptInput],
+    inputs: &'a [ScriptInput],
     files: &'a MemoryFiles,
     // The file that stops.
     which: FileOfDatabase,
     // How many senders the registry knows.
-    others: u32,
+    other_count: u32,
     // How many pages a connection keeps in memory.
     pages: usize,
 }
@@ -60,22 +60,22 @@ struct RunSetup<'a> {
 struct ScriptProgress {
     state: ExpectedState,
     // What a crash may leave of the sender: what was last acknowledged, then the updates that have failed since.
-    left: Vec<SenderRecord>,
+    possible_records: Vec<SenderRecord>,
     has_failed: bool,
     // Whether each input was answered correctly.
-    is_well: bool,
+    is_correct: bool,
 }
 
 // Mutant: a registry that remembers a device that it failed to learn. It prints `a log that stops, at 28, differs` and
 // `a large database that stops, at 49, differs`.
 pub(crate) fn run_cases(rt: &HostRuntime, report: &mut Report) -> Result<()> {
     let alloc = rt.alloc();
-    let empty = empty_files(alloc);
+    let no_files = empty_files(alloc);
     let mut setup = RunSetup {
-        items: &SCRIPT_INPUTS,
-        files: &empty,
+        inputs: &SCRIPT_INPUTS,
+        files: &no_files,
         which: FileOfDatabase::Log,
-        others: 0,
+        other_count: 0,
         pages: 9,
     };
     let ends = [
@@ -85,18 +85,18 @@ pub(crate) fn run_cases(rt: &HostRuntime, report: &mut Report) -> Result<()> {
         RunEnd::Failed,
     ];
     run_crashes(rt, report, "a log that stops", &setup, &ends)?;
-    setup.items = &LABEL_SCRIPT_INPUTS;
+    setup.inputs = &LABEL_SCRIPT_INPUTS;
     run_crashes(rt, report, "a log that stops amid labels", &setup, &ends)?;
-    setup.items = &SCRIPT_INPUTS;
+    setup.inputs = &SCRIPT_INPUTS;
     setup.which = FileOfDatabase::Database;
     let ends = [RunEnd::NotConnected];
     run_crashes(rt, report, "a database that stops", &setup, &ends)?;
-    let many = registry_files(alloc, MANY_DEVICES)?;
+    let many_files = registry_files(alloc, MANY_DEVICES)?;
     let setup = RunSetup {
-        items: &SCRIPT_INPUTS,
-        files: &many,
+        inputs: &SCRIPT_INPUTS,
+        files: &many_files,
         which: FileOfDatabase::Database,
-        others: MANY_DEVICES,
+        other_count: MANY_DEVICES,
         pages: 1,
     };
     let ends = [RunEnd::NotConnected, RunEnd::NotPrepared, RunEnd::Failed];
@@ -110,8 +110,8 @@ fn run_crashes(
     setup: &RunSetup<'_>,
     ends: &[RunEnd],
 ) -> Result<()> {
-    let wrong = first_wrong_file_failure(rt.alloc(), setup, ends)?;
-    report.add_first_wrong(rt, name, wrong)
+    let first_wrong = first_wrong_file_failure(rt.alloc(), setup, ends)?;
+    report.add_first_wrong(rt, name, first_wrong)
 }
 
 // The first number of calls after which the file stops and a run is wrong, if any. Runs end in each of these ways, and
@@ -121,23 +121,23 @@ fn first_wrong_file_failure(
     setup: &RunSetup<'_>,
     ends: &[RunEnd],
 ) -> Result<Option<usize>> {
-    let mut met = Vec::new(alloc);
-    for calls in 0..MAX_FILE_CALLS {
-        let (end, is_well) = run_until_file_fails(alloc, setup, calls)?;
-        if !is_well {
-            return Ok(Some(calls));
+    let mut ends_met = Vec::new(alloc);
+    for call_count in 0..MAX_FILE_CALLS {
+        let (run_end, is_correct) = run_until_file_fails(alloc, setup, call_count)?;
+        if !is_correct {
+            return Ok(Some(call_count));
         }
-        if end == RunEnd::Whole {
-            return Ok((!contains_all(ends, &met)).then_some(calls));
+        if run_end == RunEnd::Whole {
+            return Ok((!contains_all(ends, &ends_met)).then_some(call_count));
         }
-        met.push(end)?;
+        ends_met.push(run_end)?;
     }
     Ok(Some(MAX_FILE_CALLS))
 }
 
-fn contains_all(ends: &[RunEnd], met: &[RunEnd]) -> bool {
-    for end in ends {
-        if !met.contains(end) {
+fn contains_all(ends: &[RunEnd], ends_met: &[RunEnd]) -> bool {
+    for run_end in ends {
+        if !ends_met.contains(run_end) {
             return false;
         }
     }
@@ -145,21 +145,21 @@ fn contains_all(ends: &[RunEnd], met: &[RunEnd]) -> bool {
 }
 
 // The files of a registry that knows this many senders.
-fn registry_files(alloc: Global, others: u32) -> Result<MemoryFiles> {
+fn registry_files(alloc: Global, other_count: u32) -> Result<MemoryFiles> {
     match connect_to_files(alloc, empty_files(alloc), 9) {
-        Ok(conn) => close_into_files(filled_registry(alloc, conn, others)?),
+        Ok(conn) => close_into_files(filled_registry(alloc, conn, other_count)?),
         Err(_) => bail!("no connection"),
     }
 }
 
-fn filled_registry<C: SqlConnection + Drop>(alloc: Global, conn: C, others: u32) -> Result<C> {
+fn filled_registry<C: SqlConnection + Drop>(alloc: Global, conn: C, other_count: u32) -> Result<C> {
     let mut conn = conn;
     if is_prepared(&mut conn) != Some(true) {
         bail!("not prepared");
     }
     let sql = format!(in alloc;
         "INSERT INTO enogate_device_v2 WITH RECURSIVE n (i) AS (SELECT 1 UNION ALL SELECT i + 1 FROM n) \
-        SELECT i, 13959169, -1, '' FROM n LIMIT {others}"
+        SELECT i, 13959169, -1, '' FROM n LIMIT {other_count}"
     )?;
     conn.execute(sql.as_str(), &[])?;
     Ok(conn)
@@ -198,9 +198,9 @@ fn new_gateway_unless_store_fails<C: SqlConnection + Drop>(
 fn run_until_file_fails(
     alloc: Global,
     setup: &RunSetup<'_>,
-    calls: usize,
+    call_count: usize,
 ) -> Result<(RunEnd, bool)> {
-    let files = with_call_limit(alloc, setup.files, setup.which, calls as u64)?;
+    let files = with_call_limit(alloc, setup.files, setup.which, call_count as u64)?;
     match connect_to_files(alloc, files, setup.pages) {
         Ok(conn) => run_over(alloc, setup, conn),
         Err(files) => check_early_end(alloc, setup, RunEnd::NotConnected, files),
@@ -234,13 +234,13 @@ fn run_prepared(
 fn check_early_end(
     alloc: Global,
     setup: &RunSetup<'_>,
-    end: RunEnd,
+    run_end: RunEnd,
     files: MemoryFiles,
 ) -> Result<(RunEnd, bool)> {
     let mut files = files;
     let is_limit_reached = is_limit_reached(&mut files, setup.which);
     let is_found = is_found_after_crashes(alloc, setup, files, &[SenderRecord::Nothing])?;
-    Ok((end, is_limit_reached && is_found))
+    Ok((run_end, is_limit_reached && is_found))
 }
 
 fn check_end(
@@ -251,16 +251,16 @@ fn check_end(
 ) -> Result<(RunEnd, bool)> {
     let mut files = files;
     let is_limit_reached = is_limit_reached(&mut files, setup.which);
-    let end = if course.has_failed {
+    let run_end = if course.has_failed {
         RunEnd::Failed
     } else if is_limit_reached {
         RunEnd::JustEnough
     } else {
         RunEnd::Whole
     };
-    let is_found = is_found_after_crashes(alloc, setup, files, course.left.as_slice())?;
+    let is_found = is_found_after_crashes(alloc, setup, files, course.possible_records.as_slice())?;
     let has_cause = is_limit_reached || !course.has_failed;
-    Ok((end, course.is_well && has_cause && is_found))
+    Ok((run_end, course.is_correct && has_cause && is_found))
 }
 
 // Runs the script by a gateway, and returns the connection. `None`: there is no gateway.
@@ -281,17 +281,17 @@ fn run_script<S: DeviceStore>(
     setup: &RunSetup<'_>,
     gateway: &mut GatewayOver<S>,
 ) -> Result<ScriptProgress> {
-    let mut left = Vec::new(alloc);
-    left.push(SenderRecord::Nothing)?;
+    let mut possible_records = Vec::new(alloc);
+    possible_records.push(SenderRecord::Nothing)?;
     let mut course = ScriptProgress {
-        state: ExpectedState::new(SenderRecord::Nothing, setup.others),
-        left,
+        state: ExpectedState::new(SenderRecord::Nothing, setup.other_count),
+        possible_records,
         has_failed: false,
-        is_well: true,
+        is_correct: true,
     };
-    for item in setup.items {
-        let text = replay_output_of(alloc, gateway, item.line())?;
-        follow_answer(alloc, &mut course, *item, text.as_slice())?;
+    for input in setup.inputs {
+        let text = replay_output_of(alloc, gateway, input.line())?;
+        follow_answer(alloc, &mut course, *input, text.as_slice())?;
     }
     Ok(course)
 }
@@ -300,25 +300,28 @@ fn run_script<S: DeviceStore>(
 fn follow_answer(
     alloc: Global,
     course: &mut ScriptProgress,
-    item: ScriptInput,
+    input: ScriptInput,
     text: &[u8],
 ) -> Result<()> {
-    let change = item.record_after_acknowledgement(course.state.known);
-    if text == STORE_ERROR_LINE && item.may_need_database() {
+    let change = input.record_after_acknowledgement(course.state.record);
+    if text == STORE_ERROR_LINE && input.may_need_database() {
         course.has_failed = true;
         course.state.fail();
-        if let Some(known) = change {
-            course.left.push(known)?;
+        if let Some(record) = change {
+            course.possible_records.push(record)?;
         }
         return Ok(());
     }
-    if let Some(known) = change {
-        course.left.clear();
-        course.left.push(known)?;
+    if let Some(record) = change {
+        course.possible_records.clear();
+        course.possible_records.push(record)?;
     }
-    let mut wanted = Vec::new(alloc);
-    course.state.apply(alloc, item)?.add_to(&mut wanted)?;
-    course.is_well &= wanted.as_slice() == text;
+    let mut expected_output = Vec::new(alloc);
+    course
+        .state
+        .apply(alloc, input)?
+        .add_to(&mut expected_output)?;
+    course.is_correct &= expected_output.as_slice() == text;
     Ok(())
 }
 
@@ -327,12 +330,12 @@ fn is_found_after_crashes(
     alloc: Global,
     setup: &RunSetup<'_>,
     files: MemoryFiles,
-    left: &[SenderRecord],
+    possible_records: &[SenderRecord],
 ) -> Result<bool> {
     let mut files = files;
-    for stop in [CrashKind::OfProcess, CrashKind::OfMachine] {
-        let found = after_crash(alloc, &mut files, stop)?;
-        if !is_found(alloc, setup, found, left)? {
+    for crash in [CrashKind::OfProcess, CrashKind::OfMachine] {
+        let crashed_files = after_crash(alloc, &mut files, crash)?;
+        if !is_found(alloc, setup, crashed_files, possible_records)? {
             return Ok(false);
         }
     }
@@ -343,10 +346,10 @@ fn is_found(
     alloc: Global,
     setup: &RunSetup<'_>,
     files: MemoryFiles,
-    left: &[SenderRecord],
+    possible_records: &[SenderRecord],
 ) -> Result<bool> {
     match connect_to_files(alloc, files, setup.pages) {
-        Ok(conn) => is_found_over(alloc, conn, setup.others, left),
+        Ok(conn) => is_found_over(alloc, conn, setup.other_count, possible_records),
         Err(_) => Ok(false),
     }
 }
@@ -354,11 +357,11 @@ fn is_found(
 fn is_found_over<C: SqlConnection + Drop>(
     alloc: Global,
     conn: C,
-    others: u32,
-    left: &[SenderRecord],
+    other_count: u32,
+    possible_records: &[SenderRecord],
 ) -> Result<bool> {
     match new_gateway_unless_store_fails(alloc, conn)? {
-        Some(mut gateway) => is_found_by(alloc, &mut gateway, others, left),
+        Some(mut gateway) => is_found_by(alloc, &mut gateway, other_count, possible_records),
         None => Ok(false),
     }
 }
@@ -367,24 +370,33 @@ fn is_found_over<C: SqlConnection + Drop>(
 fn is_found_by<S: DeviceStore>(
     alloc: Global,
     gateway: &mut GatewayOver<S>,
-    others: u32,
-    left: &[SenderRecord],
+    other_count: u32,
+    possible_records: &[SenderRecord],
 ) -> Result<bool> {
     let list = replay_output_of(alloc, gateway, b"list")?;
     let window = replay_output_of(alloc, gateway, b"learn on")?;
     let query = replay_output_of(alloc, gateway, ScriptInput::Actuator.line())?;
     let mut accepted = Vec::new(alloc);
-    ExpectedState::new(SenderRecord::Nothing, others)
+    ExpectedState::new(SenderRecord::Nothing, other_count)
         .apply(alloc, ScriptInput::Actuator)?
         .add_to(&mut accepted)?;
     let is_learned = window.as_slice() == OK_LINE && query.as_slice() == accepted.as_slice();
-    Ok(is_learned && is_listed(alloc, list.as_slice(), others, left)?)
+    Ok(is_learned && is_listed(alloc, list.as_slice(), other_count, possible_records)?)
 }
 
 // Whether a list contains one of these.
-fn is_listed(alloc: Global, list: &[u8], others: u32, left: &[SenderRecord]) -> Result<bool> {
-    for known in left {
-        if ExpectedState::new(*known, others).listed(alloc)?.as_bytes() == list {
+fn is_listed(
+    alloc: Global,
+    list: &[u8],
+    other_count: u32,
+    possible_records: &[SenderRecord],
+) -> Result<bool> {
+    for record in possible_records {
+        if ExpectedState::new(*record, other_count)
+            .listed(alloc)?
+            .as_bytes()
+            == list
+        {
             return Ok(true);
         }
     }

@@ -31,11 +31,11 @@ pub(crate) fn empty_files(alloc: Global) -> MemoryFiles {
     }
 }
 
-fn copy_of_file(alloc: Global, file: &Fuse<Memory>, calls: u64) -> Result<Fuse<Memory>> {
-    let mut copy = Memory::new(alloc);
-    copy.write_at(0, file.inner().bytes())?;
-    copy.sync()?;
-    Ok(Fuse::new(copy, calls))
+fn copy_of_file(alloc: Global, file: &Fuse<Memory>, call_limit: u64) -> Result<Fuse<Memory>> {
+    let mut copied_file = Memory::new(alloc);
+    copied_file.write_at(0, file.inner().bytes())?;
+    copied_file.sync()?;
+    Ok(Fuse::new(copied_file, call_limit))
 }
 
 // Copies of the files. One of them allows this many calls, and then fails each.
@@ -43,11 +43,11 @@ pub(crate) fn with_call_limit(
     alloc: Global,
     files: &MemoryFiles,
     which: FileOfDatabase,
-    calls: u64,
+    call_limit: u64,
 ) -> Result<MemoryFiles> {
     let (log, db) = match which {
-        FileOfDatabase::Log => (calls, u64::MAX),
-        FileOfDatabase::Database => (u64::MAX, calls),
+        FileOfDatabase::Log => (call_limit, u64::MAX),
+        FileOfDatabase::Database => (u64::MAX, call_limit),
     };
     Ok(Files {
         log: copy_of_file(alloc, &files.log, log)?,
@@ -67,9 +67,9 @@ pub(crate) fn is_limit_reached(files: &mut MemoryFiles, which: FileOfDatabase) -
 pub(crate) fn after_crash(
     alloc: Global,
     files: &mut MemoryFiles,
-    stop: CrashKind,
+    crash: CrashKind,
 ) -> Result<MemoryFiles> {
-    if let CrashKind::OfMachine = stop {
+    if let CrashKind::OfMachine = crash {
         files.log.crash();
         files.db.crash();
     }

@@ -21,19 +21,23 @@ const MAX_READS: u64 = 1000;
 // differs` and `at 188, differs`.
 pub(crate) fn run_cases(rt: &HostRuntime, report: &mut Report) -> Result<()> {
     let alloc = rt.alloc();
-    let wrong = first_wrong_read(alloc)?;
-    report.add_first_wrong(rt, "each read of a replay fails in turn", wrong)?;
-    let wrong = first_wrong_write(alloc)?;
-    report.add_first_wrong(rt, "each write of a replay fails in turn", wrong)?;
-    let is_well = keeps_unreported_device(alloc)?;
-    report.add_case(rt, "a device that could not be reported is kept", is_well)
+    let first_wrong = first_wrong_read(alloc)?;
+    report.add_first_wrong(rt, "each read of a replay fails in turn", first_wrong)?;
+    let first_wrong = first_wrong_write(alloc)?;
+    report.add_first_wrong(rt, "each write of a replay fails in turn", first_wrong)?;
+    let is_correct = keeps_unreported_device(alloc)?;
+    report.add_case(
+        rt,
+        "a device that could not be reported is kept",
+        is_correct,
+    )
 }
 
 // How a replay ended, and what was written.
 #[derive(Drop)]
 struct ReplayEnd {
-    ended: Result<Summary, RunFault>,
-    written: Vec<u8>,
+    run_result: Result<Summary, RunFault>,
+    output: Vec<u8>,
 }
 
 // Replays by a reader that returns these parts and a writer that takes one byte at a call, which fail at these calls.
@@ -47,11 +51,11 @@ fn replay_parts<S: DeviceStore>(
     if gateway.is_ready() {
         bail!("a packet waits");
     }
-    let mut written = Vec::new(alloc);
+    let mut output = Vec::new(alloc);
     let mut reader = OverRead::new(PartReader::new(parts, read_fails_at));
-    let mut writer = OverWrite::new(LimitedWriter::new(&mut written, 1, write_fails_at));
-    let ended = replay(&mut reader, &mut writer, gateway, false, MAX_READS);
-    Ok(ReplayEnd { ended, written })
+    let mut writer = OverWrite::new(LimitedWriter::new(&mut output, 1, write_fails_at));
+    let run_result = replay(&mut reader, &mut writer, gateway, false, MAX_READS);
+    Ok(ReplayEnd { run_result, output })
 }
 
 // Whether this is what the gateway knows.
@@ -60,17 +64,17 @@ pub(crate) fn has_state<S: DeviceStore>(
     gateway: &mut GatewayOver<S>,
     state: &ExpectedState,
 ) -> Result<bool> {
-    let stated = replay_output_of(alloc, gateway, b"list\nstatus\n")?;
+    let state_output = replay_output_of(alloc, gateway, b"list\nstatus\n")?;
     let list = state.listed(alloc)?;
     let counts = state.status(alloc)?;
-    let behind = stated.as_slice().strip_prefix(list.as_bytes());
-    Ok(behind == Some(counts.as_bytes()))
+    let status_output = state_output.as_slice().strip_prefix(list.as_bytes());
+    Ok(status_output == Some(counts.as_bytes()))
 }
 
 fn whole_script(alloc: Global) -> Result<Vec<u8>> {
     let mut script = Vec::new(alloc);
-    for item in SCRIPT_INPUTS {
-        script.extend_from_slice(item.line())?;
+    for input in SCRIPT_INPUTS {
+        script.extend_from_slice(input.line())?;
         script.push(b'\n')?;
     }
     Ok(script)
@@ -80,37 +84,42 @@ fn whole_script(alloc: Global) -> Result<Vec<u8>> {
 // answered, or the lines after them are answered otherwise when they are sent again.
 fn first_wrong_read(alloc: Global) -> Result<Option<usize>> {
     let script = whole_script(alloc)?;
-    let mut ended = 0usize;
-    for (came, byte) in script.iter().enumerate() {
-        if !handles_read_fault(alloc, &script, came, ended)? {
-            return Ok(Some(came));
+    let mut input_count = 0usize;
+    for (byte_count, byte) in script.iter().enumerate() {
+        if !handles_read_fault(alloc, &script, byte_count, input_count)? {
+            return Ok(Some(byte_count));
         }
         if *byte == b'\n' {
-            ended = ended.saturating_add(1);
+            input_count = input_count.saturating_add(1);
         }
     }
-    let is_well = handles_read_fault(alloc, &script, script.len(), ended)?;
-    Ok((!is_well).then_some(script.len()))
+    let is_correct = handles_read_fault(alloc, &script, script.len(), input_count)?;
+    Ok((!is_correct).then_some(script.len()))
 }
 
-fn handles_read_fault(alloc: Global, script: &[u8], came: usize, ended: usize) -> Result<bool> {
-    let before = outcome_of_first(alloc, ended)?;
-    let mut singles = Vec::new(alloc);
-    for single in script.chunks(1) {
-        singles.push(single)?;
+fn handles_read_fault(
+    alloc: Global,
+    script: &[u8],
+    byte_count: usize,
+    input_count: usize,
+) -> Result<bool> {
+    let outcome_before = outcome_of_first(alloc, input_count)?;
+    let mut single_bytes = Vec::new(alloc);
+    for single_byte in script.chunks(1) {
+        single_bytes.push(single_byte)?;
     }
     let mut gateway = new_gateway(alloc)?;
-    let done = replay_parts(
+    let replay_end = replay_parts(
         alloc,
         &mut gateway,
-        &singles,
-        came.saturating_add(1),
+        &single_bytes,
+        byte_count.saturating_add(1),
         NEVER_FAILS,
     )?;
     Ok(
-        done.ended == Err(RunFault::Read)
-            && done.written.as_slice() == before.written.as_slice()
-            && answers_remaining_inputs(alloc, &mut gateway, ended, &before)?,
+        replay_end.run_result == Err(RunFault::Read)
+            && replay_end.output.as_slice() == outcome_before.replay_output.as_slice()
+            && answers_remaining_inputs(alloc, &mut gateway, input_count, &outcome_before)?,
     )
 }
 
@@ -118,31 +127,31 @@ fn handles_read_fault(alloc: Global, script: &[u8], came: usize, ended: usize) -
 fn answers_remaining_inputs<S: DeviceStore>(
     alloc: Global,
     gateway: &mut GatewayOver<S>,
-    ended: usize,
-    before: &ScriptOutcome,
+    input_count: usize,
+    outcome_before: &ScriptOutcome,
 ) -> Result<bool> {
-    let mut rest = Vec::new(alloc);
-    for item in SCRIPT_INPUTS.iter().skip(ended) {
-        rest.extend_from_slice(item.line())?;
-        rest.push(b'\n')?;
+    let mut remaining_script = Vec::new(alloc);
+    for input in SCRIPT_INPUTS.iter().skip(input_count) {
+        remaining_script.extend_from_slice(input.line())?;
+        remaining_script.push(b'\n')?;
     }
-    let written = replay_output_of(alloc, gateway, rest.as_slice())?;
-    let all = outcome_of(alloc, &SCRIPT_INPUTS)?;
-    let behind = all
-        .written
+    let output = replay_output_of(alloc, gateway, remaining_script.as_slice())?;
+    let whole_outcome = outcome_of(alloc, &SCRIPT_INPUTS)?;
+    let remaining_output = whole_outcome
+        .replay_output
         .as_slice()
-        .strip_prefix(before.written.as_slice());
-    Ok(behind == Some(written.as_slice()))
+        .strip_prefix(outcome_before.replay_output.as_slice());
+    Ok(remaining_output == Some(output.as_slice()))
 }
 
 // The first number of bytes that were written before a write failed, if anything is wrong then.
 fn first_wrong_write(alloc: Global) -> Result<Option<usize>> {
-    for done in 0..SCRIPT_INPUTS.len() {
-        let before = outcome_of_first(alloc, done)?;
-        let item = outcome_of_first(alloc, done.saturating_add(1))?;
-        for out in before.written.len()..item.written.len() {
-            if !handles_write_fault(alloc, out, &item)? {
-                return Ok(Some(out));
+    for input_count in 0..SCRIPT_INPUTS.len() {
+        let outcome_before = outcome_of_first(alloc, input_count)?;
+        let outcome_after = outcome_of_first(alloc, input_count.saturating_add(1))?;
+        for output_len in outcome_before.replay_output.len()..outcome_after.replay_output.len() {
+            if !handles_write_fault(alloc, output_len, &outcome_after)? {
+                return Ok(Some(output_len));
             }
         }
     }
@@ -150,20 +159,25 @@ fn first_wrong_write(alloc: Global) -> Result<Option<usize>> {
 }
 
 // Whether the text breaks off after this many bytes, and the input in it is done.
-fn handles_write_fault(alloc: Global, out: usize, item: &ScriptOutcome) -> Result<bool> {
+fn handles_write_fault(
+    alloc: Global,
+    output_len: usize,
+    outcome_after: &ScriptOutcome,
+) -> Result<bool> {
     let script = whole_script(alloc)?;
     let mut gateway = new_gateway(alloc)?;
-    let done = replay_parts(
+    let replay_end = replay_parts(
         alloc,
         &mut gateway,
         &[script.as_slice()],
         0,
-        out.saturating_add(1),
+        output_len.saturating_add(1),
     )?;
     Ok(
-        done.ended == Err(RunFault::Write)
-            && Some(done.written.as_slice()) == item.written.as_slice().get(..out)
-            && has_state(alloc, &mut gateway, &item.state)?,
+        replay_end.run_result == Err(RunFault::Write)
+            && Some(replay_end.output.as_slice())
+                == outcome_after.replay_output.as_slice().get(..output_len)
+            && has_state(alloc, &mut gateway, &outcome_after.state)?,
     )
 }
 
@@ -174,9 +188,9 @@ fn handles_write_fault(alloc: Global, out: usize, item: &ScriptOutcome) -> Resul
 fn keeps_unreported_device(alloc: Global) -> Result<bool> {
     let mut gateway = new_gateway(alloc)?;
     let script = b"learn on\nS 55000D0701FDD4A00146001201D201800ABC0001FFFFFFFF2D008A\n".as_slice();
-    let done = replay_parts(alloc, &mut gateway, &[script], 0, 16)?;
-    let is_broken = done.ended == Err(RunFault::Write)
-        && done.written.as_slice() == b"{\"type\":\"ok\"}\nS".as_slice();
+    let replay_end = replay_parts(alloc, &mut gateway, &[script], 0, 16)?;
+    let is_broken = replay_end.run_result == Err(RunFault::Write)
+        && replay_end.output.as_slice() == b"{\"type\":\"ok\"}\nS".as_slice();
     Ok(is_broken && finds_actuator_again(alloc, gateway)?)
 }
 
@@ -189,10 +203,10 @@ fn finds_actuator_again<C: SqlConnection + Drop>(
     if !conn.is_autocommit() {
         return Ok(false);
     }
-    let Ok(mut again) = start(alloc, conn, BASE, MAX_CACHED) else {
+    let Ok(mut reopened_gateway) = start(alloc, conn, BASE, MAX_CACHED) else {
         return Ok(false);
     };
-    let list = replay_output_of(alloc, &mut again, b"list")?;
-    let wanted = ExpectedState::new(SenderRecord::Actuator, 0).listed(alloc)?;
-    Ok(list.as_slice() == wanted.as_bytes())
+    let list = replay_output_of(alloc, &mut reopened_gateway, b"list")?;
+    let expected_list = ExpectedState::new(SenderRecord::Actuator, 0).listed(alloc)?;
+    Ok(list.as_slice() == expected_list.as_bytes())
 }

@@ -19,22 +19,26 @@ enum FailingCall {
 
 // The mutants of `faults` print `at 4, differs` and `at 188, differs` here.
 pub(crate) fn run_cases(rt: &HostRuntime, report: &mut Report) -> Result<()> {
-    let wrong = first_wrong_read(rt.alloc())?;
-    report.add_first_wrong(rt, "each read of a live gateway fails in turn", wrong)?;
-    let wrong = first_wrong_write(rt.alloc())?;
-    report.add_first_wrong(rt, "each write of a live gateway fails in turn", wrong)
+    let first_wrong = first_wrong_read(rt.alloc())?;
+    report.add_first_wrong(rt, "each read of a live gateway fails in turn", first_wrong)?;
+    let first_wrong = first_wrong_write(rt.alloc())?;
+    report.add_first_wrong(
+        rt,
+        "each write of a live gateway fails in turn",
+        first_wrong,
+    )
 }
 
 // The first turn in which a read fails and anything is wrong.
 fn first_wrong_read(alloc: Global) -> Result<Option<usize>> {
     let turns = turns_of_script(alloc)?;
-    for (done, item) in SCRIPT_INPUTS.iter().enumerate() {
-        let turn = done.saturating_add(1);
-        let is_packet = item.digits().is_some();
-        let done_by_desk = if is_packet { turn } else { done };
-        let is_well = handles_read_fault(alloc, &turns, (turn, 0), done)?
-            && handles_read_fault(alloc, &turns, (0, turn), done_by_desk)?;
-        if !is_well {
+    for (input_count, input) in SCRIPT_INPUTS.iter().enumerate() {
+        let turn = input_count.saturating_add(1);
+        let is_packet = input.digits().is_some();
+        let input_count_at_desk = if is_packet { turn } else { input_count };
+        let is_correct = handles_read_fault(alloc, &turns, (turn, 0), input_count)?
+            && handles_read_fault(alloc, &turns, (0, turn), input_count_at_desk)?;
+        if !is_correct {
             return Ok(Some(turn));
         }
     }
@@ -46,29 +50,47 @@ fn handles_read_fault(
     alloc: Global,
     turns: &Turns,
     fails_at: (usize, usize),
-    items: usize,
+    input_count: usize,
 ) -> Result<bool> {
-    let done = outcome_of_first(alloc, items)?;
-    let went = (done.radio.len(), done.desk.len());
-    handles_fault(alloc, turns, FailingCall::Reads(fails_at), went, &done)
+    let outcome = outcome_of_first(alloc, input_count)?;
+    let output_lens = (outcome.radio.len(), outcome.desk.len());
+    handles_fault(
+        alloc,
+        turns,
+        FailingCall::Reads(fails_at),
+        output_lens,
+        &outcome,
+    )
 }
 
 // The first number of bytes that were written on one side before a write there failed, if anything is wrong then.
 fn first_wrong_write(alloc: Global) -> Result<Option<usize>> {
     let turns = turns_of_script(alloc)?;
-    for done in 0..SCRIPT_INPUTS.len() {
-        let before = outcome_of_first(alloc, done)?;
-        let item = outcome_of_first(alloc, done.saturating_add(1))?;
-        for out in before.radio.len()..item.radio.len() {
-            let failing = FailingCall::Writes((out.saturating_add(1), NEVER_FAILS));
-            if !handles_fault(alloc, &turns, failing, (out, before.desk.len()), &item)? {
-                return Ok(Some(out));
+    for input_count in 0..SCRIPT_INPUTS.len() {
+        let outcome_before = outcome_of_first(alloc, input_count)?;
+        let outcome_after = outcome_of_first(alloc, input_count.saturating_add(1))?;
+        for output_len in outcome_before.radio.len()..outcome_after.radio.len() {
+            let failing_call = FailingCall::Writes((output_len.saturating_add(1), NEVER_FAILS));
+            if !handles_fault(
+                alloc,
+                &turns,
+                failing_call,
+                (output_len, outcome_before.desk.len()),
+                &outcome_after,
+            )? {
+                return Ok(Some(output_len));
             }
         }
-        for out in before.desk.len()..item.desk.len() {
-            let failing = FailingCall::Writes((NEVER_FAILS, out.saturating_add(1)));
-            if !handles_fault(alloc, &turns, failing, (item.radio.len(), out), &item)? {
-                return Ok(Some(out));
+        for output_len in outcome_before.desk.len()..outcome_after.desk.len() {
+            let failing_call = FailingCall::Writes((NEVER_FAILS, output_len.saturating_add(1)));
+            if !handles_fault(
+                alloc,
+                &turns,
+                failing_call,
+                (outcome_after.radio.len(), output_len),
+                &outcome_after,
+            )? {
+                return Ok(Some(output_len));
             }
         }
     }
@@ -80,21 +102,25 @@ fn first_wrong_write(alloc: Global) -> Result<Option<usize>> {
 fn handles_fault(
     alloc: Global,
     turns: &Turns,
-    failing: FailingCall,
-    went: (usize, usize),
-    items: &ScriptOutcome,
+    failing_call: FailingCall,
+    output_lens: (usize, usize),
+    outcome: &ScriptOutcome,
 ) -> Result<bool> {
-    let (fault, reads, writes) = match failing {
-        FailingCall::Reads(reads) => (RunFault::Read, reads, (NEVER_FAILS, NEVER_FAILS)),
-        FailingCall::Writes(writes) => (RunFault::Write, (0, 0), writes),
+    let (fault, failing_reads, failing_writes) = match failing_call {
+        FailingCall::Reads(failing_reads) => (
+            RunFault::Read,
+            failing_reads,
+            (NEVER_FAILS, NEVER_FAILS),
+        ),
+        FailingCall::Writes(failing_writes) => (RunFault::Write, (0, 0), failing_writes),
     };
-    let (sent, reported) = went;
+    let (radio_len, desk_len) = output_lens;
     let mut gateway = new_gateway(alloc)?;
-    let served = serve(alloc, &mut gateway, turns, reads, writes)?;
+    let serve_end = serve(alloc, &mut gateway, turns, failing_reads, failing_writes)?;
     Ok(
-        served.ended == Err(fault)
-            && Some(served.radio.as_slice()) == items.radio.as_slice().get(..sent)
-            && Some(served.desk.as_slice()) == items.desk.as_slice().get(..reported)
-            && has_state(alloc, &mut gateway, &items.state)?,
+        serve_end.run_result == Err(fault)
+            && Some(serve_end.radio.as_slice()) == outcome.radio.as_slice().get(..radio_len)
+            && Some(serve_end.desk.as_slice()) == outcome.desk.as_slice().get(..desk_len)
+            && has_state(alloc, &mut gateway, &outcome.state)?,
     )
 }

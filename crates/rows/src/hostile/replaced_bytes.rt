@@ -14,8 +14,12 @@ use std::alloc::Global;
 pub(crate) fn run_cases(rt: &HostRuntime, report: &mut Report) -> Result<()> {
     let alloc = rt.alloc();
     let mut gateway = new_gateway(alloc)?;
-    let wrong = first_wrong_replacement(alloc, &mut gateway)?;
-    report.add_first_wrong(rt, "each byte of a packet replaced by each other", wrong)
+    let first_wrong = first_wrong_replacement(alloc, &mut gateway)?;
+    report.add_first_wrong(
+        rt,
+        "each byte of a packet replaced by each other",
+        first_wrong,
+    )
 }
 
 // The number of the first case that is wrong, if any: 256 times the index of the byte, plus the replacement. The last
@@ -25,22 +29,22 @@ fn first_wrong_replacement<S: DeviceStore>(
     gateway: &mut GatewayOver<S>,
 ) -> Result<Option<usize>> {
     let mut state = ExpectedState::new(SenderRecord::Nothing, 0);
-    let mut number = 0;
+    let mut replacement_count = 0;
     let _accepted = replay_output_of(alloc, gateway, ScriptInput::Add.line())?;
     let _known = state.apply(alloc, ScriptInput::Add)?;
-    for at in 0..CONTACT_PACKET.len() {
+    for index in 0..CONTACT_PACKET.len() {
         for byte in 0..=255 {
-            if CONTACT_PACKET[at] != byte
-                && !reads_only_next_packet(alloc, gateway, &mut state, (at, byte))?
+            if CONTACT_PACKET[index] != byte
+                && !reads_only_next_packet(alloc, gateway, &mut state, (index, byte))?
             {
-                return Ok(Some(number));
+                return Ok(Some(replacement_count));
             }
-            number = number.saturating_add(1);
+            replacement_count = replacement_count.saturating_add(1);
         }
     }
     let counts = replay_output_of(alloc, gateway, b"status")?;
     let is_counted = state.status(alloc)?.as_bytes() == counts.as_slice();
-    Ok((!is_counted).then_some(number))
+    Ok((!is_counted).then_some(replacement_count))
 }
 
 // Whether only the whole packet is read after one with a replaced byte.
@@ -48,12 +52,12 @@ fn reads_only_next_packet<S: DeviceStore>(
     alloc: Global,
     gateway: &mut GatewayOver<S>,
     state: &mut ExpectedState,
-    replaced: (usize, u8),
+    index_and_byte: (usize, u8),
 ) -> Result<bool> {
-    let (at, byte) = replaced;
+    let (index, byte) = index_and_byte;
     let mut damaged = CONTACT_PACKET;
-    if let Some(it) = damaged.get_mut(at) {
-        *it = byte;
+    if let Some(damaged_byte) = damaged.get_mut(index) {
+        *damaged_byte = byte;
     }
     let mut script = Vec::new(alloc);
     add_chunk(&mut script, &damaged)?;

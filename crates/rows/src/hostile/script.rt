@@ -124,14 +124,14 @@ impl ScriptInput {
 
     // What is known about the sender once an acknowledgement says that this input learned, forgot or labelled it, if
     // it does.
-    pub(crate) fn record_after_acknowledgement(self, known: SenderRecord) -> Option<SenderRecord> {
+    pub(crate) fn record_after_acknowledgement(self, record: SenderRecord) -> Option<SenderRecord> {
         match self {
-            ScriptInput::Add if known == SenderRecord::Labelled => Some(known),
+            ScriptInput::Add if record == SenderRecord::Labelled => Some(record),
             ScriptInput::Add => Some(SenderRecord::Contact),
-            ScriptInput::Label if known.is_contact() => Some(SenderRecord::Labelled),
+            ScriptInput::Label if record.is_contact() => Some(SenderRecord::Labelled),
             ScriptInput::Actuator => Some(SenderRecord::Actuator),
             ScriptInput::Sensor => Some(SenderRecord::Sensor),
-            ScriptInput::Remove if known != SenderRecord::Nothing => Some(SenderRecord::Nothing),
+            ScriptInput::Remove if record != SenderRecord::Nothing => Some(SenderRecord::Nothing),
             _ => None,
         }
     }
@@ -163,9 +163,9 @@ impl ExpectedAnswer {
 #[derive(Clone, Copy)]
 pub struct ExpectedState {
     /// What it knows about the sender.
-    pub known: SenderRecord,
+    pub record: SenderRecord,
     /// How many other senders it knows. They are contacts, and have the IDs from 1 on.
-    pub others: u32,
+    pub other_count: u32,
     is_answering: bool,
     ignored: u64,
     readings: u64,
@@ -176,10 +176,10 @@ pub struct ExpectedState {
 
 impl ExpectedState {
     // The state of a new gateway that finds this about the sender.
-    pub(crate) fn new(known: SenderRecord, others: u32) -> ExpectedState {
+    pub(crate) fn new(record: SenderRecord, other_count: u32) -> ExpectedState {
         ExpectedState {
-            known,
-            others,
+            record,
+            other_count,
             is_answering: false,
             ignored: 0,
             readings: 0,
@@ -195,24 +195,24 @@ impl ExpectedState {
     }
 
     // Applies an input, and returns its answer.
-    pub(crate) fn apply(&mut self, alloc: Global, item: ScriptInput) -> Result<ExpectedAnswer> {
-        match item {
+    pub(crate) fn apply(&mut self, alloc: Global, input: ScriptInput) -> Result<ExpectedAnswer> {
+        match input {
             ScriptInput::Contact => self.receive_contact_telegram(alloc),
             ScriptInput::Actuator => self.learn(alloc, SenderRecord::Actuator, ACTUATOR_REPLY),
             ScriptInput::Sensor => self.learn(alloc, SenderRecord::Sensor, SENSOR_REPLY),
             _ => Ok(ExpectedAnswer {
                 radio: "",
-                desk: self.apply_without_radio(alloc, item)?,
+                desk: self.apply_without_radio(alloc, input)?,
             }),
         }
     }
 
     // Applies an input without radio bytes, and returns the text for the desk.
-    fn apply_without_radio(&mut self, alloc: Global, item: ScriptInput) -> Result<String> {
-        match item {
+    fn apply_without_radio(&mut self, alloc: Global, input: ScriptInput) -> Result<String> {
+        match input {
             ScriptInput::Add => {
-                self.known = item
-                    .record_after_acknowledgement(self.known)
+                self.record = input
+                    .record_after_acknowledgement(self.record)
                     .unwrap_or(SenderRecord::Contact);
                 teach_line(alloc, SenderRecord::Contact, "accepted")
             }
@@ -232,7 +232,7 @@ impl ExpectedState {
     }
 
     fn receive_contact_telegram(&mut self, alloc: Global) -> Result<ExpectedAnswer> {
-        let is_read = self.known.is_contact();
+        let is_read = self.record.is_contact();
         if is_read {
             self.readings = self.readings.saturating_add(1);
         } else {
@@ -248,46 +248,46 @@ impl ExpectedState {
     fn learn(
         &mut self,
         alloc: Global,
-        known: SenderRecord,
+        record: SenderRecord,
         radio: &'static str,
     ) -> Result<ExpectedAnswer> {
         self.teach = self.teach.saturating_add(1);
-        self.known = known;
-        let desk = teach_line(alloc, known, "accepted")?;
+        self.record = record;
+        let desk = teach_line(alloc, record, "accepted")?;
         Ok(ExpectedAnswer { radio, desk })
     }
 
     fn remove(&mut self, alloc: Global) -> Result<String> {
-        let known = self.known;
-        if known == SenderRecord::Nothing {
+        let record = self.record;
+        if record == SenderRecord::Nothing {
             return Ok(UNKNOWN_DEVICE_LINE.to_string(alloc)?);
         }
-        self.known = SenderRecord::Nothing;
-        teach_line(alloc, known, "deleted")
+        self.record = SenderRecord::Nothing;
+        teach_line(alloc, record, "deleted")
     }
 
     fn label(&mut self, alloc: Global) -> Result<String> {
-        if self.known == SenderRecord::Nothing {
+        if self.record == SenderRecord::Nothing {
             return Ok(UNKNOWN_DEVICE_LINE.to_string(alloc)?);
         }
-        self.known = SenderRecord::Labelled;
+        self.record = SenderRecord::Labelled;
         Ok(String::from_utf8_lossy(alloc, OK_LINE)?)
     }
 
     pub(crate) fn listed(&self, alloc: Global) -> Result<String> {
         let mut text = String::new(alloc);
-        for id in 1..=self.others {
+        for id in 1..=self.other_count {
             let line = format!(in alloc;
                 "{{\"eep\":\"D5-00-01\",\"id\":\"{id:08X}\",\"label\":\"\",\"maker\":null,\"type\":\"device\"}}\n"
             )?;
             text.push_str(line.as_str())?;
         }
-        let mut count = self.others;
-        if self.known != SenderRecord::Nothing {
-            let (eep, maker) = eep_and_maker(self.known);
+        let mut count = self.other_count;
+        if self.record != SenderRecord::Nothing {
+            let (eep, maker) = eep_and_maker(self.record);
             let line = format!(in alloc;
                 "{{\"eep\":\"{eep}\",\"id\":\"01800ABC\",\"label\":\"{}\",\"maker\":{maker},\"type\":\"device\"}}\n",
-                label_of(self.known)
+                label_of(self.record)
             )?;
             text.push_str(line.as_str())?;
             count = count.saturating_add(1);
@@ -311,8 +311,8 @@ impl ExpectedState {
     }
 }
 
-fn eep_and_maker(known: SenderRecord) -> (&'static str, &'static str) {
-    match known {
+fn eep_and_maker(record: SenderRecord) -> (&'static str, &'static str) {
+    match record {
         SenderRecord::Nothing => ("", ""),
         SenderRecord::Contact | SenderRecord::Labelled => ("D5-00-01", "null"),
         SenderRecord::Actuator => ("D2-01-12", "70"),
@@ -321,16 +321,16 @@ fn eep_and_maker(known: SenderRecord) -> (&'static str, &'static str) {
 }
 
 // The label of the sender in a list.
-fn label_of(known: SenderRecord) -> &'static str {
-    match known {
+fn label_of(record: SenderRecord) -> &'static str {
+    match record {
         SenderRecord::Labelled => "Door \\\"A\\\"",
         _ => "",
     }
 }
 
 // The line with the outcome for the sender.
-fn teach_line(alloc: Global, known: SenderRecord, outcome: &str) -> Result<String> {
-    let (eep, maker) = eep_and_maker(known);
+fn teach_line(alloc: Global, record: SenderRecord, outcome: &str) -> Result<String> {
+    let (eep, maker) = eep_and_maker(record);
     Ok(format!(in alloc;
         "{{\"eep\":\"{eep}\",\"id\":\"01800ABC\",\"maker\":{maker},\"result\":\"{outcome}\",\"type\":\"teach\"}}\n"
     )?)
@@ -341,7 +341,7 @@ fn teach_line(alloc: Global, known: SenderRecord, outcome: &str) -> Result<Strin
 pub struct ScriptOutcome {
     pub state: ExpectedState,
     /// What a replay writes.
-    pub written: Vec<u8>,
+    pub replay_output: Vec<u8>,
     /// What a live gateway sends by radio.
     pub radio: Vec<u8>,
     /// What it sends to the desk.
@@ -349,24 +349,28 @@ pub struct ScriptOutcome {
 }
 
 // The outcome for a new gateway with these inputs.
-pub(crate) fn outcome_of(alloc: Global, items: &[ScriptInput]) -> Result<ScriptOutcome> {
-    let mut it = ScriptOutcome {
+pub(crate) fn outcome_of(alloc: Global, inputs: &[ScriptInput]) -> Result<ScriptOutcome> {
+    let mut outcome = ScriptOutcome {
         state: ExpectedState::new(SenderRecord::Nothing, 0),
-        written: Vec::new(alloc),
+        replay_output: Vec::new(alloc),
         radio: Vec::new(alloc),
         desk: Vec::new(alloc),
     };
-    for item in items {
-        let answer = it.state.apply(alloc, *item)?;
-        answer.add_to(&mut it.written)?;
-        it.radio
+    for input in inputs {
+        let answer = outcome.state.apply(alloc, *input)?;
+        answer.add_to(&mut outcome.replay_output)?;
+        outcome
+            .radio
             .extend_from_slice(&hex::decode(alloc, answer.radio)?)?;
-        it.desk.extend_from_slice(answer.desk.as_bytes())?;
+        outcome.desk.extend_from_slice(answer.desk.as_bytes())?;
     }
-    Ok(it)
+    Ok(outcome)
 }
 
 // The outcome for a new gateway with this many first inputs of the script.
-pub(crate) fn outcome_of_first(alloc: Global, items: usize) -> Result<ScriptOutcome> {
-    outcome_of(alloc, &SCRIPT_INPUTS[..items.min(SCRIPT_INPUTS.len())])
+pub(crate) fn outcome_of_first(alloc: Global, input_count: usize) -> Result<ScriptOutcome> {
+    outcome_of(
+        alloc,
+        &SCRIPT_INPUTS[..input_count.min(SCRIPT_INPUTS.len())],
+    )
 }

@@ -23,16 +23,20 @@ struct ScriptLine {
 pub(crate) fn run_cases(rt: &HostRuntime, report: &mut Report) -> Result<()> {
     let alloc = rt.alloc();
     let script = lines_of_inputs(alloc, &SCRIPT_INPUTS, &[])?;
-    let wrong = first_wrong_end(alloc, script.as_slice())?;
-    report.add_first_wrong(rt, "a script that ends behind each byte", wrong)?;
+    let first_wrong = first_wrong_end(alloc, script.as_slice())?;
+    report.add_first_wrong(rt, "a script that ends behind each byte", first_wrong)?;
     let script = lines_of_inputs(alloc, &[ScriptInput::Add], &[ScriptInput::Contact])?;
-    let wrong = first_wrong_end(alloc, script.as_slice())?;
-    report.add_first_wrong(rt, "a wrong last byte and an end behind each byte", wrong)?;
-    let wrong = first_wrong_line(alloc)?;
+    let first_wrong = first_wrong_end(alloc, script.as_slice())?;
+    report.add_first_wrong(
+        rt,
+        "a wrong last byte and an end behind each byte",
+        first_wrong,
+    )?;
+    let first_wrong = first_wrong_line(alloc)?;
     report.add_first_wrong(
         rt,
         "a serial line that ends or pauses behind each byte",
-        wrong,
+        first_wrong,
     )
 }
 
@@ -40,13 +44,13 @@ fn add_lines(
     alloc: Global,
     lines: &mut Vec<ScriptLine>,
     state: &mut ExpectedState,
-    items: &[ScriptInput],
+    inputs: &[ScriptInput],
 ) -> Result<()> {
-    for item in items {
+    for input in inputs {
         let mut text = Vec::new(alloc);
-        state.apply(alloc, *item)?.add_to(&mut text)?;
+        state.apply(alloc, *input)?.add_to(&mut text)?;
         lines.push(ScriptLine {
-            line: item.line(),
+            line: input.line(),
             text,
         })?;
     }
@@ -56,19 +60,19 @@ fn add_lines(
 // The lines of these inputs, and, if there are any, those of others after a packet with a wrong last byte.
 fn lines_of_inputs(
     alloc: Global,
-    items: &[ScriptInput],
-    behind: &[ScriptInput],
+    inputs: &[ScriptInput],
+    inputs_after: &[ScriptInput],
 ) -> Result<Vec<ScriptLine>> {
     let mut lines = Vec::new(alloc);
     let mut state = ExpectedState::new(SenderRecord::Nothing, 0);
-    add_lines(alloc, &mut lines, &mut state, items)?;
-    if !behind.is_empty() {
+    add_lines(alloc, &mut lines, &mut state, inputs)?;
+    if !inputs_after.is_empty() {
         lines.push(ScriptLine {
             line: WRONG_LAST_BYTE,
             text: Vec::new(alloc),
         })?;
     }
-    add_lines(alloc, &mut lines, &mut state, behind)?;
+    add_lines(alloc, &mut lines, &mut state, inputs_after)?;
     Ok(lines)
 }
 
@@ -78,11 +82,11 @@ fn first_wrong_end(alloc: Global, lines: &[ScriptLine]) -> Result<Option<usize>>
     let mut text = Vec::new(alloc);
     for line in lines {
         for len in 0..line.line.len() {
-            let part = &line.line[..len];
+            let partial_line = &line.line[..len];
             if !handles_end(
                 alloc,
-                (&script, part),
-                (&text, output_for_partial_line(part)),
+                (&script, partial_line),
+                (&text, output_for_partial_line(partial_line)),
             )? {
                 return Ok(Some(script.len().saturating_add(len)));
             }
@@ -94,8 +98,8 @@ fn first_wrong_end(alloc: Global, lines: &[ScriptLine]) -> Result<Option<usize>>
         script.push(b'\n')?;
         text.extend_from_slice(&line.text)?;
     }
-    let is_well = handles_end(alloc, (&script, b""), (&text, b""))?;
-    Ok((!is_well).then_some(script.len()))
+    let is_correct = handles_end(alloc, (&script, b""), (&text, b""))?;
+    Ok((!is_correct).then_some(script.len()))
 }
 
 // Whether this is written for a script that ends within a line.
@@ -112,60 +116,62 @@ fn joined(alloc: Global, parts: (&[u8], &[u8])) -> Result<Vec<u8>> {
 
 // The output for a prefix of a line, whose rest does not arrive. It is a line itself, if it is not empty: a chunk
 // without a whole packet, or an order. Of such orders only `learn on` is valid.
-fn output_for_partial_line(part: &[u8]) -> &'static [u8] {
-    match part.strip_prefix(b"S ".as_slice()) {
+fn output_for_partial_line(partial_line: &[u8]) -> &'static [u8] {
+    match partial_line.strip_prefix(b"S ".as_slice()) {
         Some(digits) if digits.len() % 2 == 0 => b"",
-        _ if part.is_empty() => b"",
-        _ if part == b"learn on".as_slice() => OK_LINE,
+        _ if partial_line.is_empty() => b"",
+        _ if partial_line == b"learn on".as_slice() => OK_LINE,
         _ => SYNTAX_ERROR_LINE,
     }
 }
 
 // The first number of serial bytes after which the line ends or pauses and the output is wrong, if any.
 fn first_wrong_line(alloc: Global) -> Result<Option<usize>> {
-    let mut number = 0usize;
-    for (at, item) in SCRIPT_INPUTS.iter().enumerate() {
-        let Some(digits) = item.digits() else {
+    let mut byte_count = 0usize;
+    for (input_index, input) in SCRIPT_INPUTS.iter().enumerate() {
+        let Some(digits) = input.digits() else {
             continue;
         };
         for len in 0..=digits.len() / 2 {
-            if !handles_pause(alloc, at, len)? || !handles_line_end(alloc, at, len)? {
-                return Ok(Some(number.saturating_add(len)));
+            if !handles_pause(alloc, input_index, len)?
+                || !handles_line_end(alloc, input_index, len)?
+            {
+                return Ok(Some(byte_count.saturating_add(len)));
             }
         }
-        number = number.saturating_add(digits.len() / 2);
+        byte_count = byte_count.saturating_add(digits.len() / 2);
     }
     Ok(None)
 }
 
 // Whether everything is written if this many bytes of a packet arrive in one turn, and the others in the next.
-fn handles_pause(alloc: Global, at: usize, len: usize) -> Result<bool> {
-    let served = serve_by_new_gateway(alloc, &turns_with_pause(alloc, at, len)?)?;
-    let wanted = outcome_of(alloc, &SCRIPT_INPUTS)?;
+fn handles_pause(alloc: Global, input_index: usize, len: usize) -> Result<bool> {
+    let serve_end = serve_by_new_gateway(alloc, &turns_with_pause(alloc, input_index, len)?)?;
+    let expected_outcome = outcome_of(alloc, &SCRIPT_INPUTS)?;
     Ok(
-        served.ended.is_ok()
-            && served.radio.as_slice() == wanted.radio.as_slice()
-            && served.desk.as_slice() == wanted.desk.as_slice(),
+        serve_end.run_result.is_ok()
+            && serve_end.radio.as_slice() == expected_outcome.radio.as_slice()
+            && serve_end.desk.as_slice() == expected_outcome.desk.as_slice(),
     )
 }
 
 // Whether the packets before it and all orders are answered if the line ends after this many bytes of a packet.
-fn handles_line_end(alloc: Global, at: usize, len: usize) -> Result<bool> {
-    let mut items = Vec::new(alloc);
-    for (turn, item) in SCRIPT_INPUTS.iter().enumerate() {
-        let is_whole = match item.digits() {
-            Some(digits) => turn < at || turn == at && len == digits.len() / 2,
+fn handles_line_end(alloc: Global, input_index: usize, len: usize) -> Result<bool> {
+    let mut inputs = Vec::new(alloc);
+    for (turn, input) in SCRIPT_INPUTS.iter().enumerate() {
+        let is_whole = match input.digits() {
+            Some(digits) => turn < input_index || turn == input_index && len == digits.len() / 2,
             None => true,
         };
         if is_whole {
-            items.push(*item)?;
+            inputs.push(*input)?;
         }
     }
-    let served = serve_by_new_gateway(alloc, &turns_with_end(alloc, at, len)?)?;
-    let wanted = outcome_of(alloc, items.as_slice())?;
+    let serve_end = serve_by_new_gateway(alloc, &turns_with_end(alloc, input_index, len)?)?;
+    let expected_outcome = outcome_of(alloc, inputs.as_slice())?;
     Ok(
-        served.ended.is_ok()
-            && served.radio.as_slice() == wanted.radio.as_slice()
-            && served.desk.as_slice() == wanted.desk.as_slice(),
+        serve_end.run_result.is_ok()
+            && serve_end.radio.as_slice() == expected_outcome.radio.as_slice()
+            && serve_end.desk.as_slice() == expected_outcome.desk.as_slice(),
     )
 }

@@ -34,10 +34,10 @@ impl Turns {
         self.push(alloc, b"", desk.as_slice())
     }
 
-    fn push_item(&mut self, alloc: Global, item: ScriptInput) -> Result<()> {
-        match item.digits() {
+    fn push_input(&mut self, alloc: Global, input: ScriptInput) -> Result<()> {
+        match input.digits() {
             Some(digits) => self.push(alloc, bytes_of(alloc, digits)?.as_slice(), b""),
-            None => self.push_order(alloc, item.line()),
+            None => self.push_order(alloc, input.line()),
         }
     }
 }
@@ -49,42 +49,42 @@ fn bytes_of(alloc: Global, digits: &[u8]) -> Result<Vec<u8>> {
 // The turns of the script.
 pub(crate) fn turns_of_script(alloc: Global) -> Result<Turns> {
     let mut turns = Turns::new(alloc);
-    for item in SCRIPT_INPUTS {
-        turns.push_item(alloc, item)?;
+    for input in SCRIPT_INPUTS {
+        turns.push_input(alloc, input)?;
     }
     Ok(turns)
 }
 
 // The turns of the script, except that the packet with this number arrives in two turns, this many bytes of it in the
 // first.
-pub(crate) fn turns_with_pause(alloc: Global, at: usize, len: usize) -> Result<Turns> {
+pub(crate) fn turns_with_pause(alloc: Global, input_index: usize, len: usize) -> Result<Turns> {
     let mut turns = Turns::new(alloc);
-    for (number, item) in SCRIPT_INPUTS.iter().enumerate() {
-        match item.digits() {
-            Some(digits) if number == at => {
+    for (index, input) in SCRIPT_INPUTS.iter().enumerate() {
+        match input.digits() {
+            Some(digits) if index == input_index => {
                 let bytes = bytes_of(alloc, digits)?;
-                let (front, back) = bytes.as_slice().split_at(len.min(bytes.len()));
-                turns.push(alloc, front, b"")?;
-                turns.push(alloc, back, b"")?;
+                let (first_bytes, last_bytes) = bytes.as_slice().split_at(len.min(bytes.len()));
+                turns.push(alloc, first_bytes, b"")?;
+                turns.push(alloc, last_bytes, b"")?;
             }
-            _ => turns.push_item(alloc, *item)?,
+            _ => turns.push_input(alloc, *input)?,
         }
     }
     Ok(turns)
 }
 
 // The turns of the script, except that no serial bytes follow this many of the packet with this number.
-pub(crate) fn turns_with_end(alloc: Global, at: usize, len: usize) -> Result<Turns> {
+pub(crate) fn turns_with_end(alloc: Global, input_index: usize, len: usize) -> Result<Turns> {
     let mut turns = Turns::new(alloc);
-    for (number, item) in SCRIPT_INPUTS.iter().enumerate() {
-        match item.digits() {
-            Some(digits) if number >= at => {
+    for (index, input) in SCRIPT_INPUTS.iter().enumerate() {
+        match input.digits() {
+            Some(digits) if index >= input_index => {
                 let bytes = bytes_of(alloc, digits)?;
-                let kept = if number == at { len } else { 0 };
-                let (front, _) = bytes.as_slice().split_at(kept.min(bytes.len()));
-                turns.push(alloc, front, b"")?;
+                let kept_len = if index == input_index { len } else { 0 };
+                let (first_bytes, _) = bytes.as_slice().split_at(kept_len.min(bytes.len()));
+                turns.push(alloc, first_bytes, b"")?;
             }
-            _ => turns.push_item(alloc, *item)?,
+            _ => turns.push_input(alloc, *input)?,
         }
     }
     Ok(turns)
@@ -122,9 +122,9 @@ pub(crate) fn serve<S: DeviceStore>(
 }
 
 fn slices_of(alloc: Global, parts: &[Vec<u8>]) -> Result<Vec<&[u8]>> {
-    let mut views = Vec::new(alloc);
+    let mut slices = Vec::new(alloc);
     for part in parts {
-        views.push(part.as_slice())?;
+        slices.push(part.as_slice())?;
     }
-    Ok(views)
+    Ok(slices)
 }
