@@ -16,9 +16,10 @@ from . import discovery
 from .connection import ECHO_WITHIN, Broker, Connection, ConnectionLost, ReceivedMessage
 from .desk import Desk
 from .devices import Devices, time_text
+from .health import HealthReport
 from .log import RateLimitedLog
 from .orders import DEVICE_PATTERN, InvalidMessage, orders_of
-from .outbox import MAX_UNDER_WAY, Backlog, Outbox
+from .outbox import MAX_UNDER_WAY, Backlog, Entry, Outbox
 from .reconcile import Part, Reconciler
 from .requests import ListRequest, Probe, Requests
 from .state import LAST_SEEN_SUBTOPIC
@@ -65,6 +66,7 @@ class Bridge:
         self.desk, self.requests, self.store, self.clock, self.time_of_day = desk, requests, store, clock, wall
         self.wait = wait
         self.outbox, self.backlog = Outbox(), Backlog()
+        self.health = HealthReport(devices, requests, clock, wall)
         self.rate_limited_log = RateLimitedLog(clock)
         self.connection: Connection | None = None
         # what the broker retains comes on a connection of its own: if it is too much for the broker, it drops some of
@@ -151,7 +153,7 @@ class Bridge:
                 self.broker.report_refused(self.topics.status)
             self.publish_gateway_reports()
             self.publish_waiting()
-            self.outbox.publish(lambda line: self.send(Message(self.topics.lines, line, False)), self.has_room)
+            self.outbox.publish(self.publish_line, self.has_room)
             self.note_acknowledged(self.connection)
         if self.clock() >= self.saved_at + SAVE_EVERY:
             self.save()
@@ -309,15 +311,21 @@ class Bridge:
         assert self.connection is not None
         return self.connection.publish(message)
 
+    def publish_line(self, entry: Entry) -> int:
+        """Publishes a line, and returns the number of the message."""
+        return self.send(Message(self.topics.lines, entry.line, False, entry.properties(self.clock())))
+
     def handle_lines(self, are_kept: bool, is_late: bool = False, is_earlier: bool = False) -> None:
         """Handles the lines that have arrived. When they are late, the time of their arrival is not known."""
         lists_before, known_before = self.devices.list_count, set(self.devices.known_devices)
+        now = self.plausible_time()
         for line, position, content in decoded_lines(self.follower.read(), self.devices, self.rate_limited_log.warning):
             if are_kept:
-                self.outbox.add(line, position)
-            self.publish(self.devices.handle_line(content, None if is_late else self.plausible_time()))
+                self.outbox.add(line, position, self.clock(), now)
+            self.publish(self.devices.handle_line(content, None if is_late else now))
             if not is_earlier:
                 self.requests.handle_line(content)
+                self.health.handle_line(content)
         if self.devices.list_count > lists_before:
             self.requests.list_request.note_answer()
         if self.reconciler:
@@ -403,6 +411,8 @@ class Bridge:
             if (self.topics.counters not in self.gateway_reports
                 or self.clock() >= self.counters_sent_at + COUNTERS_EVERY):
                 reports[self.topics.counters] = json.dumps(self.requests.status.counters, separators=(",", ":"))
+        if health := self.health.take_due_text(self.topics.health in self.gateway_reports):
+            reports[self.topics.health] = health
         changed_reports = {topic: text for topic, text in reports.items() if self.gateway_reports.get(topic) != text}
         if self.topics.counters in changed_reports:
             self.counters_sent_at = self.clock()

@@ -30,8 +30,8 @@ SHORT_CONNECTION, OFTEN_SHORT = 10.0, 3
 FIRST_REFUSAL_CODE = 128
 # The status of paho after the end of a connection. Up to 1.6 it does not report the reason code that MQTT 5 has for it.
 CONNECTION_LOST = 7
-# The type of the packet that opens a connection.
-CONNECT_PACKET = 1
+# The types of the packets that open a connection, and that publish a message.
+CONNECT_PACKET, PUBLISH_PACKET = 1, 3
 # So many packets are handled in one turn, if there are so many.
 MAX_LOOPS = 100
 # So much of the text of an exception is logged.
@@ -228,12 +228,20 @@ class Connection:
         message_number = NOT_SENT
         if not self.send_error:
             try:
-                options = {"qos": 1, "retain": message.retained}
+                options = {"qos": 1, "retain": message.retained, **self.publish_options(message)}
                 message_number = int(send_or_lose(self.client.publish, message.topic, message.payload, **options).mid)
             except ConnectionLost as lost:
                 self.send_error = str(lost)
         self.unacknowledged_numbers.add(message_number)
         return message_number
+
+    def publish_options(self, message: Message) -> dict[str, Any]:
+        """With MQTT 5, the user properties of a message."""
+        if not (self.is_five and message.properties):
+            return {}
+        properties = self.paho.Properties(PUBLISH_PACKET)
+        properties.UserProperty = list(message.properties)
+        return {"properties": properties}
 
     def request_retained(self, filters: list[str]) -> int:
         """Subscribes to these, to get what the broker retains. The number is in `unanswered` until it is answered."""

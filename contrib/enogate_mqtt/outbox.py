@@ -17,14 +17,26 @@ MAX_LINES = 10000
 MAX_UNDER_WAY = 500
 # So many events wait; after that the oldest are dropped.
 MAX_EVENTS = 1000
+# A line that waits here for longer is late, in seconds.
+LATE_AFTER = 10.0
 
 
 @dataclass
 class Entry:
-    """A line, the position before it in the file, and the number of its message once it is published."""
+    """A line, the position before it in the file, when it was read (by the clock of the bridge, and in seconds since
+    1970, if that is known), and the number of its message once it is published. A line that was read before there was
+    this connection is late."""
     line: str
     start_position: Position
+    read_at: float = 0.0
+    time_of_day: float | None = None
     message_number: int | None = None
+    is_late: bool = False
+
+    def properties(self, now: float) -> tuple[tuple[str, str], ...]:
+        """The user properties of its message at this time, by the clock of the bridge."""
+        time = (("time", str(int(self.time_of_day))),) if self.time_of_day is not None else ()
+        return (*time, ("late", "1")) if self.is_late or now > self.read_at + LATE_AFTER else time
 
 
 class Outbox:
@@ -34,28 +46,28 @@ class Outbox:
         self.entries: deque[Entry] = deque()
         self.is_dropping = False
 
-    def add(self, line: str, start_position: Position) -> None:
+    def add(self, line: str, start_position: Position, read_at: float = 0.0, time_of_day: float | None = None) -> None:
         if len(self.entries) == MAX_LINES:
             self.entries.popleft()
             if not self.is_dropping:
                 logging.warning("broker unavailable or too slow: %s lines kept, dropping the oldest", MAX_LINES)
             self.is_dropping = True
-        self.entries.append(Entry(line, start_position))
+        self.entries.append(Entry(line, start_position, read_at, time_of_day))
 
     def start_session(self) -> None:
         """A new connection knows nothing of messages that were published on another one."""
         self.is_dropping = False
         for entry in self.entries:
-            entry.message_number = None
+            entry.message_number, entry.is_late = None, True
 
-    def publish(self, publish: Callable[[str], int], has_room: Callable[[], bool]) -> None:
+    def publish(self, publish: Callable[[Entry], int], has_room: Callable[[], bool]) -> None:
         """Publishes the lines that are not published yet, while there is room for another message; `publish` returns
         the number of the message."""
         for entry in self.entries:
             if not has_room():
                 return
             if entry.message_number is None:
-                entry.message_number = publish(entry.line)
+                entry.message_number = publish(entry)
 
     def drop_acknowledged(self, unacknowledged_numbers: Container[int]) -> None:
         """Drops the lines at the front that the broker has acknowledged."""

@@ -5,6 +5,7 @@ import contextlib
 import json
 import pathlib
 import sqlite3
+from collections.abc import Mapping
 from datetime import datetime
 
 from enogate_lines.follow import Position
@@ -50,18 +51,37 @@ def last_seen(path: str) -> tuple[Position, dict[str, datetime]] | None:
     device. None if the bridge has read none, or if the file cannot be read."""
     try:
         with contextlib.closing(sqlite3.connect(uri_of(path, "mode=ro"), uri=True, timeout=LOCK_WAIT)) as connection:
-            check_version(connection)
+            readings_by_device = last_readings(connection)
             row = connection.execute("SELECT inode, offset, last FROM place").fetchone()
-            devices = connection.execute("SELECT id, told FROM device").fetchall()
-        times_by_device = {device: time for device, text in devices if (time := time_in(text))}
+        times_by_device = {device: time for device, readings in readings_by_device.items()
+                           if (time := time_in(readings))}
         return (position_of(*row), times_by_device) if row else None
     except (sqlite3.Error, ForeignFile):
         return None
 
 
-def time_in(text: str) -> datetime | None:
-    """The time in the readings of a device, as the bridge stores them; None if it has none."""
+def last_readings(connection: sqlite3.Connection) -> dict[str, dict[str, str]]:
+    """The last readings of each device, by their subtopics, or sqlite3.Error or ForeignFile."""
+    check_version(connection)
+    rows = connection.execute("SELECT id, told FROM device")
+    return {device: texts_in(readings_text) for device, readings_text in rows}
+
+
+def texts_in(text: str) -> dict[str, str]:
+    """The texts in a JSON object, by their names; none if it is something else."""
     try:
-        return datetime.fromisoformat(json.loads(text)[LAST_SEEN_SUBTOPIC])
-    except (ValueError, TypeError, KeyError):
+        members = json.loads(text)
+    except (ValueError, TypeError, RecursionError):
+        return {}
+    named_values = members.items() if isinstance(members, dict) else ()
+    return {name: value for name, value in named_values if isinstance(value, str)}
+
+
+def time_in(readings: Mapping[str, str]) -> datetime | None:
+    """The time of the last telegram in the readings of a device; None if they have none. Each time that the bridge
+    stores has a time zone."""
+    try:
+        time = datetime.fromisoformat(readings[LAST_SEEN_SUBTOPIC])
+    except (KeyError, ValueError):
         return None
+    return time if time.tzinfo else None

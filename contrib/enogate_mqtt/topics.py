@@ -6,10 +6,12 @@ from dataclasses import dataclass
 
 @dataclass(frozen=True)
 class Message:
-    """A message to publish. A retained message without a payload deletes what the broker retains."""
+    """A message to publish. A retained message without a payload deletes what the broker retains. With MQTT 5, it has
+    these user properties: names and texts."""
     topic: str
     payload: str
     retained: bool
+    properties: tuple[tuple[str, str], ...] = ()
 
 
 @dataclass(frozen=True)
@@ -52,6 +54,11 @@ class Topics:
         return f"{self.root}/counters"
 
     @property
+    def health(self) -> str:
+        """The state of the gateway and its devices, retained, as a JSON object."""
+        return f"{self.root}/health"
+
+    @property
     def learn(self) -> str:
         """`ON` or `OFF`, retained: whether the learn window is open."""
         return f"{self.root}/learn"
@@ -59,7 +66,7 @@ class Topics:
     @property
     def report_topics(self) -> list[str]:
         """The topics for what is known about the gateway itself."""
-        return [self.gateway, self.module, self.counters, self.learn]
+        return [self.gateway, self.module, self.counters, self.learn, self.health]
 
     @property
     def watched_topics(self) -> list[str]:

@@ -26,7 +26,7 @@ RESPONSE = f'{{"code":0,"data":"{BASE}","name":"OK","type":"response"}}'
 # published, each limited to its first characters.
 MAX_DIFFERENT_LINES, MAX_SHOWN_LINES, MAX_WIDTH = 60, 12, 240
 # These are not compared: they depend on the time, or on how often the bridge has asked.
-VARYING_TOPIC_ENDS = ("/last_seen", "/counters")
+VARYING_TOPIC_ENDS = ("/last_seen", "/counters", "/health")
 Observation = TypeVar("Seen")
 
 
@@ -139,8 +139,8 @@ class BridgeTest(unittest.TestCase):
             self.assert_seen(journal[-MAX_SHOWN_LINES:], [expected_line])
 
     def published(self) -> list[str]:
-        """The messages that were published besides lines and counters, sorted."""
-        other_starts = (f"{TOPIC_ROOT}/lines ", f"{TOPIC_ROOT}/counters ")
+        """The messages that were published besides lines, counters and the state of the devices, sorted."""
+        other_starts = (f"{TOPIC_ROOT}/lines ", f"{TOPIC_ROOT}/counters ", f"{TOPIC_ROOT}/health ")
         return sorted(message for message in self.listener.messages() if not message.startswith(other_starts))
 
     def published_lines(self, kind: str = "") -> list[str]:

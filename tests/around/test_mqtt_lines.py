@@ -1,12 +1,15 @@
 """The bridge at a broker: it reads each line of the gateway once, also if the file is rotated, cut or incomplete."""
 from __future__ import annotations
 
+import json
 import os
 import pathlib
 import re
 import time
 
 from bridge_testcase import TOPIC_ROOT, GatewayTest
+from programs import Program, lines_of, wait_for
+from services import BASE
 
 DEVICE = f"{TOPIC_ROOT}/01800A02"
 READING = ('{{"dbm":-45,"eep":"A5-02-05","id":"01800A02","readings":'
@@ -26,6 +29,39 @@ class ManyLines(GatewayTest):
         self.assert_published(f"{DEVICE}/TMP 8999")
         self.assertLess(len([message for message in self.listener.messages() if message.startswith(f"{DEVICE}/TMP ")]),
                         2000)
+
+
+class TimesOfLines(GatewayTest):
+    """Each line is published with the time when it was read, and those of before the connection are late."""
+
+    def test_times_and_state(self):
+        self.order("add 01800A02 A5-02-05")
+        self.start_bridge()
+        path, listener = self.work / "properties", self.enterContext(Program(self.work / "properties.journal"))
+        listener.run(self.broker.client_command("sub", "-V", "5", "-t", f"{TOPIC_ROOT}/lines", "-F", "%P %p"), path)
+        self.assert_soon(lambda: bool(lines_of(path)), True)
+        start = int(time.time())
+        self.gateway.append(READING.format(1))
+        self.assert_times(path, 1, start, "")
+        self.bridge.end()
+        self.gateway.append(READING.format(2))
+        self.start_bridge()
+        self.assert_times(path, 2, start, "late:1 ")
+        with self.subTest("the state"):
+            state = wait_for(self.published_state, lambda state: state["last_telegram_seconds"])
+            self.assertIn(state["last_telegram_seconds"], range(start, int(time.time()) + 1))
+            self.assertEqual((state["base"], state["gateway"], state["stick"]), (BASE, True, True))
+
+    def published_state(self) -> dict:
+        """The state of the gateway and its devices that the broker retains."""
+        return json.loads(self.broker.retained()[f"{TOPIC_ROOT}/health"])
+
+    def assert_times(self, path: pathlib.Path, value: int, start: int, late: str) -> None:
+        """The line with this value was published with a time after the start, and this property after it."""
+        found = wait_for(lambda: [line for line in lines_of(path) if f'"num":{value},' in line], bool)
+        self.assertEqual([line.split(" ", 1)[1] for line in found], [late + READING.format(value)[:-1]])
+        self.assertRegex(found[0], "^time:[0-9]+ ")
+        self.assertIn(int(found[0].split()[0].removeprefix("time:")), range(start, int(time.time()) + 1))
 
 
 class IdleBridge(GatewayTest):

@@ -23,7 +23,7 @@ OK = {"type": "ok"}
 # How long a test may take, in seconds; the slowest one takes some ten on a busy machine.
 LONGEST_TEST = 120
 # Some topics of the gateway: whoever removes all of its retained messages removes these.
-WATCHED = [*(f"enogate/hall/{name}" for name in ("status", "gateway", "module", "counters", "learn")),
+WATCHED = [*(f"enogate/hall/{name}" for name in ("status", "gateway", "module", "counters", "learn", "health")),
            *(f"homeassistant/{place}/config" for place in (
                "binary_sensor/enogate_hall/status", "sensor/enogate_hall/readings", "switch/enogate_hall/learn"))]
 
@@ -52,6 +52,8 @@ class FakeConnection:
         self.unacknowledged_numbers: set[int] = set()
         self.unanswered_numbers: set[int] = set()
         self.published: list[tuple[str, str, bool]] = []
+        # the user properties of the messages that have some
+        self.properties: list[tuple[str, dict[str, str]]] = []
         self.requests: list[list[str]] = []
         self.acknowledges_messages = self.answers_requests = self.passes_messages_on = True
         self.number = 0
@@ -63,6 +65,8 @@ class FakeConnection:
 
     def publish(self, message):
         self.published.append((message.topic, message.payload, message.retained))
+        if message.properties:
+            self.properties.append((message.payload, dict(message.properties)))
         if message.retained:
             self.memory[message.topic] = message.payload
             if not message.payload:

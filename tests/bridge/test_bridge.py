@@ -924,6 +924,78 @@ class WholeBridge(LogTest):
         self.assertNotIn(TOPIC_ROOT + "01800ABC/last_seen", self.fixture.broker.memory)
         self.assertIsNone(self.fixture.bridge.requests.gateway_probe.is_online)
 
+    def times_of_lines(self):
+        """The user properties of the lines that were published on this connection, by their type."""
+        return [(json.loads(line)["type"], properties)
+                for line, properties in self.fixture.broker.connection.properties]
+
+    def test_times_of_lines(self):
+        """Each line has the time when it was read. Those that were read before the connection are late."""
+        self.start()
+        self.fixture.write_lines(OK)
+        self.fixture.run_turns()
+        self.assertEqual(self.times_of_lines(), [("ok", {"time": "1800000000"})])
+        self.assertEqual(self.lines(), [json.dumps(OK)])
+        self.fixture.broker.lose()
+        self.fixture.wall.now += 5
+        self.fixture.write_lines(status())
+        self.fixture.run_turns()
+        self.fixture.wall.now += 5
+        self.fixture.write_lines(reading("01800ABC"))
+        self.fixture.broker.accept_connection()
+        self.fixture.run_turns(1)
+        self.fixture.write_lines(OK)
+        self.fixture.run_turns()
+        self.assertEqual(self.times_of_lines(), [
+            ("status", {"time": "1800000005", "late": "1"}), ("reading", {"time": "1800000010", "late": "1"}),
+            ("ok", {"time": "1800000010"})])
+
+    def test_lines_of_before_the_start_are_late(self):
+        self.start()
+        self.fixture.stop()
+        self.fixture.broker.lose()
+        self.fixture.write_lines(OK)
+        self.fixture.wall.now += 100
+        self.fixture.start()
+        self.fixture.broker.accept_connection()
+        self.fixture.run_turns()
+        self.assertEqual(self.times_of_lines(), [("ok", {"time": "1800000100", "late": "1"})])
+
+    def test_lines_that_are_published_again_are_late(self):
+        self.start()
+        self.fixture.broker.connection.acknowledges_messages = False
+        self.fixture.write_lines(OK)
+        self.fixture.run_turns()
+        self.fixture.broker.accept_connection()
+        self.fixture.run_turns()
+        self.assertEqual(self.times_of_lines(), [("ok", {"time": "1800000000", "late": "1"})])
+
+    def test_lines_that_wait_are_late(self):
+        """After ten seconds."""
+        connection = self.congest_broker()
+        self.fixture.run_turns(1, 11)
+        connection.acknowledges_messages = True
+        self.fixture.run_turns(1)
+        self.fixture.write_lines(OK)
+        self.fixture.run_turns()
+        *earlier_properties, last_properties = [properties for _, properties in self.times_of_lines()][-100:]
+        self.assertEqual({tuple(properties) for properties in earlier_properties}, {("time", "late")})
+        self.assertEqual(last_properties, {"time": "1800000000"})
+
+    def test_lines_while_the_clock_is_wrong_have_no_time(self):
+        self.start()
+        self.last_seen()
+        self.fixture.run_turns(2, 3)
+        self.fixture.stop()
+        self.fixture.wall.now -= 1000
+        self.fixture.start()
+        self.fixture.broker.accept_connection()
+        self.fixture.run_turns(1)
+        self.fixture.write_lines(OK)
+        self.fixture.run_turns()
+        self.assertIn(TOPIC_ROOT + "lines", [topic for topic, _ in self.fixture.published()])
+        self.assertEqual(self.times_of_lines(), [])
+
     def test_an_order_before_the_gateway_has_answered(self):
         self.start()
         self.fixture.send(TOPIC_ROOT + "orders", b"list")

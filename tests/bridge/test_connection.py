@@ -43,8 +43,8 @@ class FakePahoClient:
             return (0, self.last_message_id)
         return call
 
-    def publish(self, topic, payload, qos, retain):
-        self.calls.append(("publish", (topic, payload), {"qos": qos, "retain": retain}))
+    def publish(self, topic, payload, **options):
+        self.calls.append(("publish", (topic, payload), options))
         self.last_message_id += 1
         return types.SimpleNamespace(mid=self.last_message_id)
 
@@ -251,6 +251,17 @@ class PahoConnection(LogTest):
         self.assertEqual(mqtt_connection.unacknowledged_numbers, {other_number})
         self.client.on_publish(self.client, None, other_number)
         self.assertEqual(mqtt_connection.unacknowledged_numbers, set())
+
+    def test_user_properties(self):
+        """Only with MQTT 5, and only if the message has some."""
+        message = Message("a", "x", False, (("time", "5"), ("late", "1")))
+        self.connect().publish(message)
+        options = self.client.calls_of("publish")[0][1]
+        properties = options.pop("properties")
+        self.assertEqual((properties.packet, properties.UserProperty, options),
+                         (3, [("time", "5"), ("late", "1")], {"qos": 1, "retain": False}))
+        self.connect(version=4).publish(message)
+        self.assertEqual(self.client.calls_of("publish"), [(("a", "x"), {"qos": 1, "retain": False})])
 
     def test_requests(self):
         mqtt_connection = self.connect()

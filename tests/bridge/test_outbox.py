@@ -17,8 +17,8 @@ class OutboxLines(LogTest):
         self.box, self.published = Outbox(), []
 
     def publish(self, room=100):
-        def send(line):
-            self.published.append(line)
+        def send(entry):
+            self.published.append(entry.line)
             return len(self.published)
         self.box.publish(send, lambda: len(self.published) < room)
 
@@ -69,6 +69,17 @@ class OutboxLines(LogTest):
         self.box.start_session()
         self.publish()
         self.assertEqual(self.published, ["a", "b", "b"])
+
+    def test_times(self):
+        """Late is what was read before there was this connection, or more than ten seconds ago."""
+        self.box.add("a", END, 100.0, 1_800_000_000.9)
+        self.box.add("b", END, 100.0)
+        time = ("time", "1800000000"), ("late", "1")
+        self.assertEqual([entry.properties(110.0) for entry in self.box.entries], [time[:1], ()])
+        self.assertEqual([entry.properties(110.1) for entry in self.box.entries], [time, time[1:]])
+        self.box.start_session()
+        self.box.add("c", END, 100.0, 0.0)
+        self.assertEqual([entry.properties(100.0) for entry in self.box.entries], [time, time[1:], (("time", "0"),)])
 
     def test_the_oldest_are_dropped(self):
         self.assertEqual(outbox.MAX_LINES, 10000)

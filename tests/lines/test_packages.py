@@ -5,13 +5,15 @@ import re
 import unittest
 
 CONTRIB = pathlib.Path(__file__).parents[2] / "contrib"
-# Of the bridge, the command imports a single module. Of the command, the building imports two.
+# Of the bridge, other packages import a single module. Of the command, the building imports two.
 ALLOWED_IMPORTS = {
     ("enogate_lines", "enogate_tools"), ("enogate_building", "enogate_tools"),
     ("enogate_building", "enogate_ctl.sheet"), ("enogate_building", "enogate_ctl.stops"),
     ("enogate_mqtt", "enogate_lines"), ("enogate_mqtt", "enogate_tools"),
     ("enogate_ctl", "enogate_lines"), ("enogate_ctl", "enogate_tools"), ("enogate_ctl", "enogate_mqtt.state"),
     ("enogate_report", "enogate_ctl"), ("enogate_report", "enogate_lines"), ("enogate_report", "enogate_tools"),
+    ("enogate_metrics", "enogate_ctl"), ("enogate_metrics", "enogate_lines"), ("enogate_metrics", "enogate_tools"),
+    ("enogate_metrics", "enogate_mqtt.state"),
 }
 
 
