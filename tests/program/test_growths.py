@@ -50,8 +50,8 @@ class AllocationsTest(ProgramTest):
 
     def assert_equal_allocations(self, script, other_script):
         """Runs on these two scripts have as many allocations. Returns what the second one prints."""
-        other_growths, output = self.count_allocations(other_script)
-        self.assertEqual(self.count_allocations(script)[0], other_growths)
+        other_growth_count, output = self.count_allocations(other_script)
+        self.assertEqual(self.count_allocations(script)[0], other_growth_count)
         return output
 
     def allocations_by_packet(self, orders, line, *options):
@@ -103,18 +103,18 @@ class RememberedSendersTest(AllocationsTest, LiveTest):
 
     ADD_SCRIPT = "".join(f"add {sender:08X} D5-00-01\n" for sender in range(1000))
 
-    def count_in_replay(self, orders, packets, *options):
-        growths, output = self.count_allocations(orders + serial_script_lines(packets) + "status\n", *options)
+    def count_allocations_in_replay(self, orders, packets, *options):
+        growth_count, output = self.count_allocations(orders + serial_script_lines(packets) + "status\n", *options)
         self.assertEqual(output.splitlines(keepends=True)[-1], status_line(96, 4000))
-        return growths, output
+        return growth_count, output
 
-    def count_in_live(self, orders, packets, *options):
+    def count_allocations_in_live(self, orders, packets, *options):
         """The line has bytes 00 for the turns that read the orders."""
         self.desk.write_text(orders)
         self.line.write_bytes(bytes(-(-len(orders) // 256) * 256) + packets)
         turn_count = -(-self.line.stat().st_size // 256)
-        growths, _ = self.count_allocations_of_command(self.run_live, *options, turn_count=turn_count)
-        return growths, self.answers.read_text()
+        growth_count, _ = self.count_allocations_of_command(self.run_live, *options, turn_count=turn_count)
+        return growth_count, self.answers.read_text()
 
     def assert_senders_cached(self, serve, orders, *options):
         """These orders, or an earlier start, add the devices."""
@@ -128,14 +128,14 @@ class RememberedSendersTest(AllocationsTest, LiveTest):
         self.assertEqual(output.count('"type":"reading"'), 4000)
 
     def test_senders_are_remembered_in_memory(self):
-        for serve in (self.count_in_replay, self.count_in_live):
+        for serve in (self.count_allocations_in_replay, self.count_allocations_in_live):
             with self.subTest(serve=serve.__name__):
                 self.assert_senders_cached(serve, self.ADD_SCRIPT)
 
     def test_senders_are_remembered_with_a_registry_in_a_file(self):
         in_file = ["--db", self.work / "thousand.db"]
         self.run_replay(*in_file, script=self.ADD_SCRIPT)
-        for serve in (self.count_in_replay, self.count_in_live):
+        for serve in (self.count_allocations_in_replay, self.count_allocations_in_live):
             with self.subTest(serve=serve.__name__):
                 self.assert_senders_cached(serve, "", *in_file)
 
@@ -165,11 +165,11 @@ class OutputLineAllocationsTest(AllocationsTest):
             ("add 01800ABC A5-08-03\n", longest_packet_line, 276, [128, 256, 512]),
         ):
             with self.subTest(length=length):
-                line_sizes = decoded_text(self.run_replay(script=orders
+                last_line = decoded_text(self.run_replay(script=orders
                                                           + packet_line).stdout).splitlines(keepends=True)[-1]
                 sizes_of_one_packet, sizes_of_two_packets = (self.allocation_sizes(orders + repetitions * packet_line)
                                                              for repetitions in (1, 2))
-                self.assertEqual((len(line_sizes), sorted((sizes_of_two_packets - sizes_of_one_packet).elements())),
+                self.assertEqual((len(last_line), sorted((sizes_of_two_packets - sizes_of_one_packet).elements())),
                                  (length, buffers))
 
     def test_packets_of_a_device_that_was_taught_in_over_the_air(self):
@@ -223,7 +223,7 @@ class TeachInAllocationsTest(AllocationsTest):
 
     def test_each_deletion_of_a_device_that_is_not_learned_asks_the_database(self):
         line, counts = self.allocations_of_reading(), self.allocations_by_packet(WINDOW_ORDERS["on"], UTE_DELETION)
-        self.assertEqual([growths for growths in counts if growths <= line], [], f"{counts}, and a line has {line}")
+        self.assertEqual([count for count in counts if count <= line], [], f"{counts}, and a line has {line}")
 
     def test_a_device_that_was_deleted_over_the_air_is_not_looked_up(self):
         deletions = WINDOW_ORDERS["answer"] + 50 * (UTE_QUERY + UTE_DELETION)
