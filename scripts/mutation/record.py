@@ -95,8 +95,9 @@ class CheckInputs:
         if self.has_cycles or not mutant.function:
             return MutantDigests(digest_of_whole, digest_of_whole)
         own_text = self.own_text_of(mutant.function).encode()
-        proofs = digest_of_files(self.proof_files_of(mutant.function))
-        return MutantDigests(digest_of(self.shared, own_text, proofs, mutant.text.encode())[:16], digest_of_whole)
+        proofs_digest = digest_of_files(self.proof_files_of(mutant.function))
+        digest_of_function = digest_of(self.shared, own_text, proofs_digest, mutant.text.encode())[:16]
+        return MutantDigests(digest_of_function, digest_of_whole)
 
 
 def is_of_one_function(path, names):

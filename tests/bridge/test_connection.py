@@ -215,9 +215,9 @@ class PahoConnection(LogTest):
         original_client = module.Client
 
         def client(**options):
-            mqtt_connection = original_client(**options)
-            mqtt_connection.connect = unittest.mock.Mock(side_effect=ConnectionRefusedError(111, "Connection refused"))
-            return mqtt_connection
+            paho_client = original_client(**options)
+            paho_client.connect = unittest.mock.Mock(side_effect=ConnectionRefusedError(111, "Connection refused"))
+            return paho_client
         module.Client = client
         with self.assertRaisesRegex(ConnectionLost, "^Connection refused$"):
             self.connect(module=module)

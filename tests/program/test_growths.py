@@ -85,16 +85,16 @@ class DatabaseQueriesTest(AllocationsTest):
                 )
 
     def test_each_packet_of_a_learned_device_takes_as_much_memory(self):
-        line_count, *other_counts = self.allocations_by_packet(ADD_ORDER, READING_PACKET_LINE)
-        self.assertGreater(line_count, 0)
-        self.assertEqual(other_counts, [line_count, line_count])
+        count_of_line, *other_counts = self.allocations_by_packet(ADD_ORDER, READING_PACKET_LINE)
+        self.assertGreater(count_of_line, 0)
+        self.assertEqual(other_counts, [count_of_line, count_of_line])
 
     def test_only_the_first_packet_after_a_start_asks_the_database(self):
         """The packets after it need less memory than the query itself."""
-        line_count = self.allocations_of_reading()
+        count_of_line = self.allocations_of_reading()
         first_count, *other_counts = self.allocations_by_packet("", READING_PACKET_LINE, *self.file_registry_options())
-        self.assertEqual(other_counts, [line_count, line_count])
-        self.assertGreater(first_count - line_count, line_count)
+        self.assertEqual(other_counts, [count_of_line, count_of_line])
+        self.assertGreater(first_count - count_of_line, count_of_line)
 
 
 class RememberedSendersTest(AllocationsTest, LiveTest):
@@ -165,8 +165,8 @@ class OutputLineAllocationsTest(AllocationsTest):
             ("add 01800ABC A5-08-03\n", longest_packet_line, 276, [128, 256, 512]),
         ):
             with self.subTest(length=length):
-                last_line = decoded_text(self.run_replay(script=orders
-                                                          + packet_line).stdout).splitlines(keepends=True)[-1]
+                output = decoded_text(self.run_replay(script=orders + packet_line).stdout)
+                last_line = output.splitlines(keepends=True)[-1]
                 sizes_of_one_packet, sizes_of_two_packets = (self.allocation_sizes(orders + repetitions * packet_line)
                                                              for repetitions in (1, 2))
                 self.assertEqual((len(last_line), sorted((sizes_of_two_packets - sizes_of_one_packet).elements())),
@@ -222,8 +222,10 @@ class TeachInAllocationsTest(AllocationsTest):
                 self.assertEqual(output.count('"result":"deleted"'), 50)
 
     def test_each_deletion_of_a_device_that_is_not_learned_asks_the_database(self):
-        line, counts = self.allocations_of_reading(), self.allocations_by_packet(WINDOW_ORDERS["on"], UTE_DELETION)
-        self.assertEqual([count for count in counts if count <= line], [], f"{counts}, and a line has {line}")
+        count_of_line = self.allocations_of_reading()
+        counts = self.allocations_by_packet(WINDOW_ORDERS["on"], UTE_DELETION)
+        self.assertEqual([count for count in counts if count <= count_of_line], [],
+                         f"{counts}, and a line has {count_of_line}")
 
     def test_a_device_that_was_deleted_over_the_air_is_not_looked_up(self):
         deletions = WINDOW_ORDERS["answer"] + 50 * (UTE_QUERY + UTE_DELETION)
@@ -308,7 +310,7 @@ class InputsWithoutAllocationsTest(AllocationsTest):
         self.assert_no_allocations(1000 * "learn on\nlearn on answer\nlearn as F6-02-01\nlearn off\n", 1)
 
     def test_orders_that_are_refused_before_the_database_is_asked(self):
-        error_by_line = (
+        lines_and_errors = (
             ("later", "syntax"),
             (201 * " ", "too_long"),
             ("add FFFFFFFF D5-00-01", "range"),
@@ -319,9 +321,10 @@ class InputsWithoutAllocationsTest(AllocationsTest):
             ("label FFFFFFFF x", "range"),
             ("label 00000001 " + 33 * "0", "range"),
         )
-        script = 1000 * "".join(f"{line}\n" for line, _ in error_by_line)
+        script = 1000 * "".join(f"{line}\n" for line, _ in lines_and_errors)
         self.assert_equal_allocations("", script)
-        self.assert_run(self.run_replay(script=script), 1000 * "".join(error_line(name) for _, name in error_by_line))
+        self.assert_run(self.run_replay(script=script),
+                        1000 * "".join(error_line(name) for _, name in lines_and_errors))
 
 
 def error_line(name):
