@@ -59,7 +59,7 @@ def invalid_order(order: str) -> InvalidOrder:
     return InvalidOrder(f"{order!r} is not an order: the form is {shown}" + (f" ({'; '.join(named)})" if named else ""))
 
 
-def possible_order(words: Sequence[str]) -> str:
+def suggested_order(words: Sequence[str]) -> str:
     """What may be meant by words that are no order, as a shell takes it: a label of several words, which needs
     quotation marks, or an order without the channel. Empty if there is neither."""
     from shlex import join
@@ -81,7 +81,7 @@ def order_and_label(words: Sequence[str]) -> tuple[str, str]:
         return order, ""
     # This argument is a whole label, even if it begins with an ID, so that the rest becomes no part of the order.
     if not re.fullmatch(PATTERNS["TEXT"], name) or not is_order(" ".join((verb, SAMPLE_ID, *words[2:]))):
-        if possible := possible_order(words):
+        if possible := suggested_order(words):
             raise InvalidOrder(f"{order!r} is not an order: did you mean `{possible}`?")
         raise invalid_order(order)
     return " ".join((verb, ID_PLACEHOLDER, *words[2:])), name

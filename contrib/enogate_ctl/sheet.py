@@ -52,17 +52,17 @@ NumberedRow = tuple[int, DeviceRow | InvalidRow]
 
 
 class Head:
-    """The head of a sheet: the heads of the columns, as the sheet has them."""
+    """The head of a sheet: the titles of the columns, as the sheet has them."""
 
-    def __init__(self, heads: Sequence[str]):
-        self.heads = heads
-        fields = share.texts_by_word("column")
+    def __init__(self, titles: Sequence[str]):
+        self.titles = titles
+        fields_by_title = share.texts_by_word("column")
         # the number of the column of each field
         self.places: dict[str, int] = {}
-        for place, head in enumerate(heads):
-            if field := fields.get(re.sub(r"[\W_]", "", head.lower())):
-                self.places.setdefault(field, place)
-        self.other_places = [place for place in range(len(heads)) if place not in self.places.values()]
+        for place, title in enumerate(titles):
+            if device_field := fields_by_title.get(re.sub(r"[\W_]", "", title.lower())):
+                self.places.setdefault(device_field, place)
+        self.other_places = [place for place in range(len(titles)) if place not in self.places.values()]
 
     @property
     def is_complete(self) -> bool:
@@ -78,8 +78,8 @@ class Head:
 
     @property
     def others(self) -> tuple[str, ...]:
-        """The heads of the other columns."""
-        return tuple(self.heads[place] for place in self.other_places)
+        """The titles of the other columns."""
+        return tuple(self.titles[place] for place in self.other_places)
 
     def value(self, field: str, cells: Sequence[str]) -> str:
         """The value of a field in a row."""
@@ -87,8 +87,8 @@ class Head:
         return cells[place] if place < len(cells) else ""
 
     def name(self, field: str) -> str:
-        """The head of the column of a field."""
-        return self.heads[self.places[field]]
+        """The title of the column of a field."""
+        return self.titles[self.places[field]]
 
     def row_of(self, cells: list[str]) -> DeviceRow:
         """The device of a row, or InvalidRow."""

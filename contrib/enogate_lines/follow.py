@@ -26,7 +26,7 @@ class Position(NamedTuple):
         return Position(self.inode, self.offset + len(chunk), (self.last + chunk)[-MAX_LAST:])
 
 
-START_OF_NO_FILE = Position(0, 0, b"")
+NO_POSITION = Position(0, 0, b"")
 
 
 class Follower:
@@ -39,7 +39,7 @@ class Follower:
     def __init__(self, path: str, position: Position | None, warn: Callable[[str], None], is_same_boot: bool = True):
         self.path, self.warn = path, warn
         self.file: int | None = None
-        self.position = position or START_OF_NO_FILE
+        self.position = position or NO_POSITION
         # the beginning of a line whose end has not been written yet
         self.partial_line = b""
         # the next file, if it existed at the last call
@@ -55,7 +55,7 @@ class Follower:
         self.is_found = bool(self.position.inode) and self.open_at_position(is_same_boot)
         if self.position.inode and not self.is_found:
             warn(f"{path}: previous file not found, reading from the beginning")
-            self.position = START_OF_NO_FILE
+            self.position = NO_POSITION
 
     def open_at_position(self, is_same_boot: bool) -> bool:
         """Opens the file of the position, whatever its name is now."""
@@ -139,7 +139,7 @@ class Follower:
             return None
         paths = rotated_files(self.path)
         paths_and_inodes = [(path, inode) for path in paths if (inode := inode_of(path))]
-        indices = [number for number, (_, inode) in enumerate(paths_and_inodes) if inode == own_inode]
+        indices = [index for index, (_, inode) in enumerate(paths_and_inodes) if inode == own_inode]
         if indices:
             later = paths_and_inodes[indices[0] + 1:]
         else:

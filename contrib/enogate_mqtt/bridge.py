@@ -121,16 +121,15 @@ class Bridge:
 
     def turn(self) -> None:
         """Waits until there is something to do, and does it."""
-        connections = [connection_or_reader
-                       for connection_or_reader in (self.broker.connection, self.reader) if connection_or_reader]
+        connections = [connection for connection in (self.broker.connection, self.reader) if connection]
         self.wait(connections, self.longest_wait(), self.follower.seen_next is None)
         if self.broker.turn():
             self.handle_connected()
         self.turn_reader()
         # what has arrived before a loss is handled too
         for connection in filter(None, (self.connection, self.reader)):
-            received_message, connection.received_messages = connection.received_messages, []
-            for message in received_message:
+            received_messages, connection.received_messages = connection.received_messages, []
+            for message in received_messages:
                 self.handle_message(message)
         if self.connection is not self.broker.connection:
             self.connection = self.reconciler = None
@@ -241,11 +240,11 @@ class Bridge:
     def parts_for_unknown_devices(self) -> list[Part]:
         """Without a state file it is unknown which devices were published before: the broker is asked for all, in parts
         that are as small as possible."""
-        filters = [[f"{self.topics.root}/+/+"], [f"{self.topics.root}/+/+/+"]]
+        filters_of_parts = [[f"{self.topics.root}/+/+"], [f"{self.topics.root}/+/+/+"]]
         if self.topics.discovery:
-            filters += [[self.topics.config(component, "+")] for component in sorted(discovery.COMPONENTS)]
-        return [Part(UNKNOWN_PART, some_filters, is_large=True, expected_topics=self.wanted_messages())
-                for some_filters in filters]
+            filters_of_parts += [[self.topics.config(component, "+")] for component in sorted(discovery.COMPONENTS)]
+        return [Part(UNKNOWN_PART, filters, is_large=True, expected_topics=self.wanted_messages())
+                for filters in filters_of_parts]
 
     def wanted_messages(self) -> dict[str, str]:
         """Everything that the broker should retain, by topic."""
@@ -385,17 +384,18 @@ class Bridge:
             self.rate_limited_log.warning("refused", f"message on {message.topic!r} ignored: {invalid}")
             return
         except OSError as error:
-            lost_text = f"message on {message.topic!r} lost: {self.desk.path}: {error.strerror or error}"
-            self.rate_limited_log.warning("lost", lost_text)
+            loss_warning = f"message on {message.topic!r} lost: {self.desk.path}: {error.strerror or error}"
+            self.rate_limited_log.warning("lost", loss_warning)
             self.requests.window = window
             return
         if left_out_count:
-            left_out_of = f"message on {message.topic!r}: {left_out_count} orders not passed on: "
-            self.rate_limited_log.warning("left out", left_out_of + "an earlier list or status is not answered yet")
+            left_out_warning = (f"message on {message.topic!r}: {left_out_count} orders not passed on: "
+                                "an earlier list or status is not answered yet")
+            self.rate_limited_log.warning("left out", left_out_warning)
         self.requests.note_window_orders(orders)
         if self.requests.gateway_probe.is_online is False:
-            may_be_lost = f"message on {message.topic!r}: the gateway does not answer, orders may be lost"
-            self.rate_limited_log.warning("offline", may_be_lost)
+            offline_warning = f"message on {message.topic!r}: the gateway does not answer, orders may be lost"
+            self.rate_limited_log.warning("offline", offline_warning)
 
     def publish_gateway_reports(self) -> None:
         """Publishes what is known about the gateway itself, if it has changed."""

@@ -138,7 +138,7 @@ class Connection:
             return
         if code_number(code) == 0:
             filters = [*self.topics.command_filters, *self.topics.watched_topics]
-            self.orders_request = send_or_lose(client.subscribe, [(topic, 1) for topic in filters])[1]
+            self.orders_request = send_or_lose(client.subscribe, [(topic_filter, 1) for topic_filter in filters])[1]
             return
         self.is_unsupported = self.is_five and code_number(code) in (1, 132)
         text = self.paho.connack_string(code) if isinstance(code, int) else str(code)
@@ -245,7 +245,7 @@ class Connection:
 
     def request_retained(self, filters: list[str]) -> int:
         """Subscribes to these, to get what the broker retains. The number is in `unanswered` until it is answered."""
-        return self.note_request(*send_or_lose(self.client.subscribe, [(topic, 0) for topic in filters]))
+        return self.note_request(*send_or_lose(self.client.subscribe, [(topic_filter, 0) for topic_filter in filters]))
 
     def cancel_request(self, filters: list[str]) -> int:
         """Ends these subscriptions. What the broker retains arrives before the answer."""
@@ -300,7 +300,7 @@ class Broker:
         self.pause, self.due, self.version = FIRST_PAUSE, 0.0, 5
         # the reasons that were logged since the last connection
         self.reasons: set[str] = set()
-        self.short_connections = 0
+        self.short_connection_count = 0
 
     def turn(self) -> bool:
         """Connects if this is due, or handles what has arrived. Returns whether a connection was opened."""
@@ -345,8 +345,8 @@ class Broker:
         if self.connection and self.connection.is_open:
             duration = self.clock() - self.connection.began_at
             self.pause = FIRST_PAUSE if duration > MAX_PAUSE else self.pause
-            self.short_connections = self.short_connections + 1 if duration < SHORT_CONNECTION else 0
-            if self.short_connections == OFTEN_SHORT:
+            self.short_connection_count = self.short_connection_count + 1 if duration < SHORT_CONNECTION else 0
+            if self.short_connection_count == OFTEN_SHORT:
                 logging.warning("the connection is lost again and again: is there another bridge with this name?")
         self.close_connection()
         if reason not in self.reasons:

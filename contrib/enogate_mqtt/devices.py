@@ -216,12 +216,13 @@ class Devices:
         events = self.table.events_of(telegram)
         if self.has_events(telegram.eep):
             # a rocker that is not pressed any more is not retained as pressed
-            earlier_events = [subtopic for subtopic in device.last_readings
-                              if subtopic not in texts_by_subtopic and subtopic not in ("dbm", LAST_SEEN_SUBTOPIC)]
-            messages += self.delete_retained(self.topics.reading(device.name, subtopic) for subtopic in earlier_events)
+            earlier_subtopics = [subtopic for subtopic in device.last_readings
+                                 if subtopic not in texts_by_subtopic and subtopic not in ("dbm", LAST_SEEN_SUBTOPIC)]
+            messages += self.delete_retained(self.topics.reading(device.name, subtopic)
+                                             for subtopic in earlier_subtopics)
             device.last_readings = {subtopic: text
                                     for subtopic, text in device.last_readings.items()
-                                    if subtopic not in earlier_events}
+                                    if subtopic not in earlier_subtopics}
         if now is not None:
             texts_by_subtopic[LAST_SEEN_SUBTOPIC] = time_text(now)
         is_new = not texts_by_subtopic.keys() <= device.last_readings.keys()

@@ -10,7 +10,7 @@ import time
 from types import ModuleType
 
 from enogate_lines.entities import Table
-from enogate_lines.follow import START_OF_NO_FILE, Follower, without_nuls
+from enogate_lines.follow import NO_POSITION, Follower, without_nuls
 
 from . import discovery, log
 from .bridge import Bridge, decoded_lines
@@ -92,7 +92,7 @@ def print_messages(topics: Topics, settings: PublishingSettings) -> None:
     """Prints what would be published for the lines on standard input."""
     signal.signal(signal.SIGPIPE, signal.SIG_DFL)
     devices = Devices(topics, Table(), settings.expire_after)
-    lines = ((without_nuls(line.removesuffix(b"\n")), START_OF_NO_FILE) for line in sys.stdin.buffer)
+    lines = ((without_nuls(line.removesuffix(b"\n")), NO_POSITION) for line in sys.stdin.buffer)
     for line, _, content in decoded_lines(lines, devices, lambda _kind, text: logging.warning("%s", text)):
         for message in [Message(topics.lines, line, False), *devices.handle_line(content)]:
             print(message.topic, "retained" if message.retained else "-", message.payload, flush=True)

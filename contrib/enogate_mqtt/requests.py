@@ -155,7 +155,7 @@ class Requests:
         if self.gateway_probe.is_online:
             earliest = self.started_at + START_WITHIN
             due += [self.module_probe.due,
-                    *(max(check.late_at, earliest) for check in (self.output_probe, self.module_probe))]
+                    *(max(probe.late_at, earliest) for probe in (self.output_probe, self.module_probe))]
         if self.window:
             due.append(self.window.clock_time)
         if self.queries and self.may_ask_actuators():

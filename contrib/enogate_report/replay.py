@@ -67,13 +67,13 @@ def replay(path: str, program: str) -> int:
     base = contents[BASE_FILE].decode(errors="replace").strip()
     if not is_base(base):
         raise BadReport(f"{BASE_FILE} has no base ID")
-    same_lines, lines = 0, io.BytesIO(contents[EXPECTED_FILE])
+    same_line_count, lines = 0, io.BytesIO(contents[EXPECTED_FILE])
     for line, written_line in itertools.zip_longest(lines, output_for(contents[SCRIPT_FILE], base, program),
                                                     fillvalue=b""):
         if line != written_line:
-            print(f"line {same_lines + 1} of {EXPECTED_FILE} is {line[:MAX_SHOWN_TEXT]!r}, but the replay writes "
+            print(f"line {same_line_count + 1} of {EXPECTED_FILE} is {line[:MAX_SHOWN_TEXT]!r}, but the replay writes "
                   f"{written_line[:MAX_SHOWN_TEXT]!r}")
             return 1
-        same_lines += 1
-    print(f"{same_lines} lines are the same")
+        same_line_count += 1
+    print(f"{same_line_count} lines are the same")
     return 0

@@ -83,12 +83,13 @@ class Script:
                 raise NotReplayed
         self.append(order, lines)
 
-    def packet_order(self, reason: str, packet: Members, report: Members) -> str:
+    def packet_order(self, reason: str, packet_line: Members, report: Members) -> str:
         """The lines of the script with a packet. The report is the second line about it, or the only one."""
-        if "rorg" in packet:
-            packet_bytes = self.telegram(reason, packet, report)
+        if "rorg" in packet_line:
+            packet_bytes = self.telegram(reason, packet_line, report)
         else:
-            size, kind = checked_number(packet["size"], 0, 0xFFFF), checked_number(packet["kind"], 0, MAX_BYTE)
+            size = checked_number(packet_line["size"], 0, 0xFFFF)
+            kind = checked_number(packet_line["kind"], 0, MAX_BYTE)
             data = bytes([report["code"]]) + bytes.fromhex(report["data"]) if reason == "response" else bytes(size)
             if len(data) != size:
                 raise NotReplayed
@@ -98,18 +99,18 @@ class Script:
         return "\n".join(f"S {packet_bytes[offset:offset + MAX_BYTES].hex().upper()}"
                          for offset in range(0, len(packet_bytes), MAX_BYTES))
 
-    def telegram(self, reason: str, packet: Members, report: Members) -> bytes:
+    def telegram(self, reason: str, packet_line: Members, report: Members) -> bytes:
         """The packet of a telegram."""
-        device, rorg, payload = device_of(packet), packet["rorg"], bytes.fromhex(packet["payload"])
-        destination, mode = int(packet["dest"] or "FFFFFFFF", 16), mode_for(self.mode, reason, packet, report)
-        packet_bytes = esp3.telegram(int(rorg, 16), payload, int(device, 16), int(packet["status"], 16), destination,
-                                     dbm_of(packet))
+        device, rorg, payload = device_of(packet_line), packet_line["rorg"], bytes.fromhex(packet_line["payload"])
+        destination, mode = int(packet_line["dest"] or "FFFFFFFF", 16), mode_for(self.mode, reason, packet_line, report)
+        packet_bytes = esp3.telegram(int(rorg, 16), payload, int(device, 16), int(packet_line["status"], 16),
+                                     destination, dbm_of(packet_line))
         is_for_gateway = destination == esp3.BROADCAST_ID or destination & ~0x7F == int(self.base, 16)
         if device_of(report) != device or reason == "full" and not self.is_full_for(device) or (
                 reason != "from_broadcast" and is_for_gateway == (reason == "for_others")):
             raise NotReplayed
         if reason in ("read", "wrong_kind", "wrong_length", "other_message"):
-            self.set_device(device, eep_of(packet), maker_of(packet))
+            self.set_device(device, eep_of(packet_line), maker_of(packet_line))
         elif reason == "unknown_sender" or reason == "accepted" and rorg in ("F6", "D2"):
             self.set_device(device)
         self.set_mode(mode)
@@ -169,17 +170,17 @@ class Script:
             self.mode = mode
 
 
-def mode_for(mode: str, reason: str, packet: Members, report: Members) -> str:
+def mode_for(mode: str, reason: str, packet_line: Members, report: Members) -> str:
     """A mode in which a telegram has these lines: the mode now, if this is possible."""
-    rorg, modes = packet["rorg"], [mode]
+    rorg, modes = packet_line["rorg"], [mode]
     if reason == "window_closed" or reason == "unknown_sender" and mode[3:5] == rorg:
         modes = ["closed"]
     elif reason == "other_mode" and (not mode.startswith("as ") or mode[3:5] == rorg):
         modes = ["as F6-01-01"]
     elif reason in ("accepted", "full"):
         # The telegram has the profile, or is that of a contact; or the order `learn as` has it.
-        has_eep = rorg == "D4" or rorg == "A5" and int(packet["payload"], 16) & 0x80
-        is_own = report["eep"] == ("D5-00-01" if rorg == "D5" else packet["eep"] if has_eep else "")
+        has_eep = rorg == "D4" or rorg == "A5" and int(packet_line["payload"], 16) & 0x80
+        is_own = report["eep"] == ("D5-00-01" if rorg == "D5" else packet_line["eep"] if has_eep else "")
         modes = ["on", "answer"] * is_own + [f"as {report['eep']}"] * (rorg != "D4")
     elif reason in RESULT_TEXTS:
         modes = ["on", "answer"]

@@ -179,9 +179,10 @@ class Check:
                           f"with a udev rule, or run: sudo chgrp dialout {path} && sudo chmod 660 {path}")
         users, sees_all = self.system.users_of(path)
         own_processes = {self.gateway, self.start}
-        other_processes = sorted({*users, *self.system.lockers_of(path)} - own_processes, key=lambda user: user.number)
-        for user in other_processes:
-            yield FAULT, (f"{user} uses {path} too, and each program receives only part of the data: end it, or "
+        other_processes = sorted({*users, *self.system.lockers_of(path)} - own_processes,
+                                 key=lambda process: process.number)
+        for process in other_processes:
+            yield FAULT, (f"{process} uses {path} too, and each program receives only part of the data: end it, or "
                           f"correct {setting_place}")
         if not sees_all:
             yield self.unchecked_finding(f"programs of other users that use {path} without a lock")
@@ -355,9 +356,9 @@ class Check:
             return
         users, sees_all = self.system.users_of(self.database)
         other_processes = sorted({*users, *self.system.lockers_of(self.database)} - {self.gateway},
-                                 key=lambda user: user.number)
-        for user in other_processes:
-            yield FAULT, f"{user} uses the database {self.database}: end it"
+                                 key=lambda process: process.number)
+        for process in other_processes:
+            yield FAULT, f"{process} uses the database {self.database}: end it"
         if not sees_all and not other_processes:
             yield self.unchecked_finding(f"programs of other users that use {self.database}")
         if self.gateway:

@@ -25,7 +25,7 @@ class LineStore:
         self.path, self.say = path, say
         self.waiting_bytes, self.partial_line = b"", b""
         # how many were added, how many of them report a packet, and how many were dropped since the last one was stored
-        self.count = self.packets = self.dropped_count = 0
+        self.count = self.packet_count = self.dropped_count = 0
         self.is_failing = False
 
     def add(self, text: bytes) -> bytes:
@@ -33,7 +33,7 @@ class LineStore:
         whole_lines, line_end, self.partial_line = (self.partial_line + text).rpartition(b"\n")
         whole_lines += line_end
         self.count += whole_lines.count(b"\n")
-        self.packets += whole_lines.count(PACKET_MARK)
+        self.packet_count += whole_lines.count(PACKET_MARK)
         self.waiting_bytes += whole_lines
         return whole_lines
 

@@ -60,7 +60,7 @@ def effects() -> dict[str, str]:
     """What each of these forms does."""
     lines = list(table_lines("orders"))
     orders_and_effects = ((row, effect.strip()) for row, effect in zip(lines, lines[1:]) if effect[0] == " ")
-    return {re.split(" {2,}", row, maxsplit=1)[0]: does for row, does in orders_and_effects}
+    return {re.split(" {2,}", row, maxsplit=1)[0]: effect for row, effect in orders_and_effects}
 
 
 @functools.cache

@@ -209,7 +209,7 @@ class GatewayRun:
         read_files = (file for file in files if desk and file.is_read_only)
         offset = next((file.offset for file in read_files if is_same_file(file.status, desk)), 0)
         return Sample(read_calls, None if bytes_read is None else bytes_read - offset, self.unit.lines.count,
-                      self.unit.lines.packets, offset, desk.st_size - offset if desk else 0,
+                      self.unit.lines.packet_count, offset, desk.st_size - offset if desk else 0,
                       ports.unsent_bytes(self.port))
 
 

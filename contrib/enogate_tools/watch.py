@@ -39,11 +39,11 @@ class Watch:
     def __init__(self, path: str, explains: bool):
         self.path, self.explains = path, explains
         self.last_sample: Sample | None = None
-        self.stuck_looks = self.unread_looks = self.unsent_looks = 0
+        self.stuck_look_count = self.unread_look_count = self.unsent_look_count = 0
         # whether an order was read and no line was written since
         self.is_asked = False
         # the looks since the first byte after the last packet, and those at which bytes had come
-        self.packetless_looks = self.byte_bursts = 0
+        self.packetless_look_count = self.byte_burst_count = 0
 
     def fault_at(self, sample: Sample) -> str:
         """What is wrong at this look; empty if nothing is."""
@@ -53,25 +53,25 @@ class Watch:
         has_received = (sample.received_bytes is not None and last_sample.received_bytes is not None
                         and sample.received_bytes > last_sample.received_bytes)
         has_read = sample.read_calls is None or sample.read_calls != last_sample.read_calls
-        self.stuck_looks = 0 if has_read or sample.lines != last_sample.lines else self.stuck_looks + 1
+        self.stuck_look_count = 0 if has_read or sample.lines != last_sample.lines else self.stuck_look_count + 1
         # between two reads it carries out a part of its orders, which takes long if the disk is slow
-        self.unread_looks = (self.unread_looks + has_read if sample.unread_bytes and last_sample.unread_bytes
-                             and sample.offset == last_sample.offset else 0)
-        self.unsent_looks = (self.unsent_looks + 1 if sample.unsent_bytes and last_sample.unsent_bytes
-                             and not has_received else 0)
+        self.unread_look_count = (self.unread_look_count + has_read if sample.unread_bytes and last_sample.unread_bytes
+                                  and sample.offset == last_sample.offset else 0)
+        self.unsent_look_count = (self.unsent_look_count + 1 if sample.unsent_bytes and last_sample.unsent_bytes
+                                  and not has_received else 0)
         self.count_looks_without_packet(has_received, sample, last_sample)
-        if self.unsent_looks >= UNSENT_LOOKS:
+        if self.unsent_look_count >= UNSENT_LOOKS:
             return (f"the stick at {self.path} has taken no bytes for {UNSENT_LOOKS} s, {sample.unsent_bytes} are "
                     "waiting")
-        if self.stuck_looks >= STUCK_LOOKS:
+        if self.stuck_look_count >= STUCK_LOOKS:
             return (f"the gateway has read nothing for {STUCK_LOOKS} s: perhaps the stick at {self.path} takes no "
                     "bytes, or the disk does not answer")
-        if self.unread_looks >= UNREAD_LOOKS and sample.unread_bytes < 0:
+        if self.unread_look_count >= UNREAD_LOOKS and sample.unread_bytes < 0:
             return f"the desk was truncated: the next {-sample.unread_bytes} bytes of orders would be lost"
-        if self.unread_looks >= UNREAD_LOOKS:
+        if self.unread_look_count >= UNREAD_LOOKS:
             return (f"{sample.unread_bytes} bytes of orders have not been read for {UNREAD_LOOKS} s: perhaps the "
                     "desk was replaced")
-        if self.explains and self.packetless_looks >= PACKETLESS_LOOKS and self.byte_bursts >= MIN_BURSTS:
+        if self.explains and self.packetless_look_count >= PACKETLESS_LOOKS and self.byte_burst_count >= MIN_BURSTS:
             return (f"bytes come from the stick at {self.path}, but no packet for {PACKETLESS_LOOKS} s: they are "
                     "damaged, or this is not the port of a radio module")
         return ""
@@ -82,10 +82,10 @@ class Watch:
         is_asked = self.is_asked or sample.offset != last_sample.offset or sample.lines != last_sample.lines
         self.is_asked = is_asked and sample.lines == last_sample.lines
         if sample.packet_count > last_sample.packet_count:
-            self.packetless_looks = self.byte_bursts = 0
-        elif self.packetless_looks or (has_received and not is_asked):
-            self.packetless_looks += 1
-            self.byte_bursts += has_received and not is_asked
+            self.packetless_look_count = self.byte_burst_count = 0
+        elif self.packetless_look_count or (has_received and not is_asked):
+            self.packetless_look_count += 1
+            self.byte_burst_count += has_received and not is_asked
 
 
 class RestartPauses:

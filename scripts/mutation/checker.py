@@ -62,7 +62,7 @@ class Checker:
         self.crate, self.folder, self.root = crate, crate.folder, root
         self.work_folder = tempfile.TemporaryDirectory(prefix="mutation-")
         self.seed, self.files = f"{self.work_folder.name}/seed", None
-        self.seconds = self.checks = 0
+        self.seconds = self.check_count = 0
 
     def check_unchanged(self):
         """Checks the unchanged crate, and returns this check. It uses the results of an earlier `rt check`, if any."""
@@ -104,7 +104,7 @@ class Checker:
                 _, status, resource_usage = os.wait4(process.pid, 0)
                 process.returncode = os.waitstatus_to_exitcode(status)
         self.seconds += resource_usage.ru_utime + resource_usage.ru_stime
-        self.checks += 1
+        self.check_count += 1
         return CheckReport(process.returncode, output, texts)
 
     def is_seed_unchanged(self):

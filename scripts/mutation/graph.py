@@ -36,11 +36,11 @@ class CallGraph:
             # (a method is named in the module of its type, which another file may hold)
             joined_types = {(function.type + trait_word).lower()
                             for trait_word in function.trait} or {function.type.lower()}
-            return [trait_word for trait_word in self.methods_named(function.name)
-                    if trait_word.split("::")[-2].lower() in joined_types]
+            return [reported_name for reported_name in self.methods_named(function.name)
+                    if reported_name.split("::")[-2].lower() in joined_types]
         path = function.path.removeprefix("src/").removesuffix(".rt").split("/")
         module = "::".join([self.crate, *([] if path in (["lib"], ["main"]) else path)])
-        return [trait_word for trait_word in self.names if trait_word == f"{module}::{function.name}"]
+        return [reported_name for reported_name in self.names if reported_name == f"{module}::{function.name}"]
 
     def similar_names(self, function, taken_names):
         """The names of methods that begin with this one's type, without those that are exactly another function's."""

@@ -41,7 +41,7 @@ def run_and_note(root, crates, kit_name, words):
     status = subprocess.run(words, check=False).returncode
     if status == 0 and sums_before == [source_sum(crate, kit_name) for crate in crates]:
         os.makedirs(os.path.dirname(path), exist_ok=True)
-        with open(path, "w", encoding="utf-8") as crate:
-            crate.writelines(f"{source_line} {library_sum(crate)}\n"
-                             for source_line, crate in zip(sums_before, crates) if os.path.isdir(crate.rlib))
+        with open(path, "w", encoding="utf-8") as file:
+            file.writelines(f"{sum_before} {library_sum(crate)}\n"
+                            for sum_before, crate in zip(sums_before, crates) if os.path.isdir(crate.rlib))
     return status if status >= 0 else 128 - status

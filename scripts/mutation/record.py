@@ -85,9 +85,9 @@ class CheckInputs:
     def own_text_of(self, function):
         """The text of the function, with its place among those of its file that have the same head and type."""
         functions = split_functions(function.path, dict(self.files).get(function.path, b"").decode())[0]
-        functions_alike = [same_head for same_head in functions
-                           if (same_head.type, same_head.head) == (function.type, function.head)]
-        earlier_count = sum(same_head.line < function.line for same_head in functions_alike)
+        functions_alike = [other_function for other_function in functions
+                           if (other_function.type, other_function.head) == (function.type, function.head)]
+        earlier_count = sum(other_function.line < function.line for other_function in functions_alike)
         return "\n".join([*[str(earlier_count)] * (earlier_count > 0), function.type, *function.lines])
 
     def digests(self, mutant):
@@ -95,8 +95,9 @@ class CheckInputs:
         if self.has_cycles or not mutant.function:
             return MutantDigests(digest_of_whole, digest_of_whole)
         own_text = self.own_text_of(mutant.function).encode()
-        proofs = digest_of_files(self.proof_files_of(mutant.function))
-        return MutantDigests(digest_of(self.shared, own_text, proofs, mutant.text.encode())[:16], digest_of_whole)
+        proofs_digest = digest_of_files(self.proof_files_of(mutant.function))
+        digest_of_function = digest_of(self.shared, own_text, proofs_digest, mutant.text.encode())[:16]
+        return MutantDigests(digest_of_function, digest_of_whole)
 
 
 def is_of_one_function(path, names):
@@ -131,12 +132,12 @@ def write_record(root, crate, digests, results):
 
     `digests` has those of each mutant of the crate, by name; `results` has the mutants that were tried."""
     earlier_records, lines = valid_records(root, crate, digests), []
-    for name, result in sorted(digests.items()):
+    for name, mutant_digests in sorted(digests.items()):
         if name not in results:
             lines += [earlier_records[name]] if name in earlier_records else []
         elif results[name].outcome.is_refusal:
             function = results[name].text if results[name].is_by_own_proof else NOT_ITS_FUNCTION
-            lines.append(f"{result.of(function)} {name} {function}")
+            lines.append(f"{mutant_digests.of(function)} {name} {function}")
     os.makedirs(f"{root}/{RECORD_FOLDER}", exist_ok=True)
     with open(f"{root}/{RECORD_FOLDER}/{crate}", "w", encoding="utf-8") as file:
         file.write("".join(f"{line}\n" for line in lines))

@@ -26,7 +26,7 @@ def count_faults(root, crates):
     }
     other_files = {file for crate in crates for file in record.files_below(f"{crate.folder}/mutants")}
     other_files -= {file for crate in crates for file in glob.glob(f"{crate.folder}/mutants/*.edit")}
-    return [f"{os.path.relpath(crate, root)} has another name than mutants have" for crate in sorted(other_files)] + [
+    return [f"{os.path.relpath(file, root)} has another name than mutants have" for file in sorted(other_files)] + [
         f"{name} has {actual_counts.get(name, 0)} mutants, and {record.COUNTS_FILE} says {wanted_counts.get(name, 0)}"
         for name in sorted({*wanted_counts, *actual_counts})
         if actual_counts.get(name, 0) != wanted_counts.get(name, 0)
@@ -80,28 +80,28 @@ class MutantRun:
                 print(summary_of_crate(tries), flush=True)
 
     def try_crate(self, crate, mutants):
-        checks = self.make_checker(crate, self.root)
+        crate_checker = self.make_checker(crate, self.root)
         paths = sorted(glob.glob(f"{crate.folder}/src/**/*.rt", recursive=True))
         sources = {os.path.relpath(path, crate.folder): read_text(path) for path in paths}
-        tries, fault = CrateTries(crate.name, sources, checks, self.map_in_lanes), ""
+        tries, fault = CrateTries(crate.name, sources, crate_checker, self.map_in_lanes), ""
         try:
             fault = self.pool.submit(tries.check_unchanged).result()
             if not fault:
                 tries.try_all(mutants)
-                if not checks.is_seed_unchanged():
+                if not crate_checker.is_seed_unchanged():
                     fault = f"{crate.name}: a check changed what the others began with"
                 if self.digests_of(crate) != self.digests[crate.name]:
                     fault = f"{crate.name}: a file that the checks read was changed during the run"
-        except checker.LibrariesNotBuilt as fault_text:
-            fault = str(fault_text)
+        except checker.LibrariesNotBuilt as error:
+            fault = str(error)
         finally:
-            checks.close()
-        missing_results = {path.name for path in mutants} - {*tries.results}
+            crate_checker.close()
+        untried_names = {mutant.name for mutant in mutants} - {*tries.results}
         if fault:
             # (the results of such checks must not be recorded)
             tries.results.clear()
-        elif missing_results:
-            fault = f"{crate.name}: {min(missing_results)} was not tried"
+        elif untried_names:
+            fault = f"{crate.name}: {min(untried_names)} was not tried"
         self.faults += [fault] if fault else []
         return tries
 
@@ -126,5 +126,5 @@ def summary_of_crate(tries):
     counts = collections.Counter(f"{result.outcome.value} ({result.refused_function})"
                                  for result in tries.results.values())
     text = ", ".join(f"{count} {outcome}" for outcome, count in sorted(counts.items()))
-    cost = f"{tries.checker.checks} checks, {tries.checker.seconds:.0f} processor seconds"
+    cost = f"{tries.checker.check_count} checks, {tries.checker.seconds:.0f} processor seconds"
     return f"{tries.name}: {text or 'no result'}; {cost}"

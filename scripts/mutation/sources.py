@@ -32,9 +32,9 @@ class Function(NamedTuple):
 def body_range(lines, start):
     """The lines that open and close the body of the function whose head begins here, or None if it has no body."""
     indent = lines[start][: len(lines[start]) - len(lines[start].lstrip())]
-    opens = re.compile(rf"{indent}(?:\{{|\).*\{{|where\b.*\{{)$")
+    opening_pattern = re.compile(rf"{indent}(?:\{{|\).*\{{|where\b.*\{{)$")
     head_end = start
-    while not (opens.match(lines[head_end]) or head_end == start and lines[head_end].endswith("{")):
+    while not (opening_pattern.match(lines[head_end]) or head_end == start and lines[head_end].endswith("{")):
         head_end += 1
         # (clauses are indented further; after a head without a body comes a line that is not)
         if head_end == len(lines) or not re.match(rf"$|{indent}(?: +\S|[{{)]|where\b)", lines[head_end]):

@@ -79,8 +79,9 @@ def main():
         results = list(pool.map(lambda base_and_script: compare_programs(program, other_program, *base_and_script),
                                 scripts))
     differing_seeds = [number for number, (is_same, _) in enumerate(results) if not is_same]
-    lines = sum(lines for _, lines in results)
-    print(f"{count} scripts of {lines:,} lines", f"differ: {differing_seeds}" if differing_seeds else "are the same")
+    line_count = sum(count_of_script for _, count_of_script in results)
+    print(f"{count} scripts of {line_count:,} lines",
+          f"differ: {differing_seeds}" if differing_seeds else "are the same")
     sys.exit(1 if differing_seeds else 0)
 
 

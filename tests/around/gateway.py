@@ -33,16 +33,16 @@ def answer_lines(order, devices):
 def main():
     devices = [f"{0x01800000 + device_number:08X}" for device_number in range(int(sys.argv[3]))]
     with open(sys.argv[1], "w+", encoding="utf-8") as desk, open(sys.argv[2], "a", encoding="utf-8") as lines:
-        def write_line(new_lines):
+        def write_lines(new_lines):
             lines.write("".join(json.dumps(line, separators=(",", ":")) + "\n" for line in new_lines))
             lines.flush()
         if "--readings" in sys.argv:
-            write_line(line_of_reading(name, channel) for name in devices for channel in (0, 1))
+            write_lines(line_of_reading(name, channel) for name in devices for channel in (0, 1))
         unended_text = ""
         while True:
             *orders, unended_text = (unended_text + desk.read(256)).split("\n")
             for order in orders:
-                write_line(answer_lines(order, devices))
+                write_lines(answer_lines(order, devices))
             time.sleep(0.1)
 
 

@@ -12,7 +12,8 @@ root = pathlib.Path(__file__).resolve().parents[2]
 # For each license whose text the package contains: how the text begins, after the notices of a crate.
 LICENSE_BEGINNINGS = {"Expat": "Permission is hereby granted", "BSD-3-Clause": "Redistribution and use"}
 paragraphs = re.split(r"\n\n+", (root / "packaging/debian/copyright").read_text())
-fields = [dict(re.findall(r"^([A-Z]\w+):((?:.*\n?)(?:[ \t].*\n?)*)", text + "\n", re.MULTILINE)) for text in paragraphs]
+fields_of_paragraphs = [dict(re.findall(r"^([A-Z]\w+):((?:.*\n?)(?:[ \t].*\n?)*)", text + "\n", re.MULTILINE))
+                        for text in paragraphs]
 
 
 def used_crates(crate):
@@ -40,8 +41,8 @@ def joined_words(text):
     return " ".join(re.sub(r"^ \.$", "", text, flags=re.M).split())
 
 
-texts = {name["License"].split("\n")[0].strip(): joined_words(name["License"].partition("\n")[2])
-         for name in fields if "License" in name and "Files" not in name}
+texts = {fields["License"].split("\n")[0].strip(): joined_words(fields["License"].partition("\n")[2])
+         for fields in fields_of_paragraphs if "License" in fields and "Files" not in fields}
 faults = []
 for crate in all_crates():
     for license in sorted((kit / crate).glob("LICENSE*")):
@@ -54,7 +55,8 @@ for crate in all_crates():
                 faults.append(f"{crate}: {license.name} has another text")
         elif "Apache License" not in text:
             faults.append(f"{crate}: {license.name} is no license that this script knows")
-        own_fields = [field for field in fields if field.get("Files", "").strip() == f"rattle/{crate}/*"]
+        own_fields = [fields for fields in fields_of_paragraphs
+                      if fields.get("Files", "").strip() == f"rattle/{crate}/*"]
         if not own_fields or kind not in own_fields[0]["License"]:
             faults.append(f"{crate}: no paragraph with the license {kind}")
         else:

@@ -157,15 +157,16 @@ class OrdersOfTwoPrograms(StateOfBridgeTest):
         `status` has fences before it, and one after it, which ends with CR."""
         desk, given_verbs = self.gateway.desk.read_bytes(), [order.split(" ")[0] for order in self.given_orders]
         on_desk = desk.decode("ascii").split("\n")
-        fences = sum(needed_fences(desk[:fenced_order.start()]) for fenced_order in FENCED_ORDER_PATTERN.finditer(desk))
-        statuses = given_verbs.count("status") + fences + MESSAGES * 2
-        return on_desk.count("list") - given_verbs.count("list"), on_desk.count("status") - statuses
+        fence_count = sum(needed_fences(desk[:fenced_order.start()])
+                          for fenced_order in FENCED_ORDER_PATTERN.finditer(desk))
+        status_count = given_verbs.count("status") + fence_count + MESSAGES * 2
+        return on_desk.count("list") - given_verbs.count("list"), on_desk.count("status") - status_count
 
     def assert_answered(self) -> None:
         """Each order on the desk has one answer."""
         def count() -> tuple[int, int]:
-            answers = sum(len(lines_of_type(self.gateway.lines(), kind)) for kind in ANSWER_END_TYPES)
-            return answers - len(lines_of(self.gateway.desk)), len(lines_of_type(self.gateway.lines(), "reading"))
+            answer_count = sum(len(lines_of_type(self.gateway.lines(), kind)) for kind in ANSWER_END_TYPES)
+            return answer_count - len(lines_of(self.gateway.desk)), len(lines_of_type(self.gateway.lines(), "reading"))
         self.assert_soon(count, (0, 2 * MESSAGES))
 
     def state(self) -> dict[str, str]:

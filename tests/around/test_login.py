@@ -66,8 +66,8 @@ def request_file(path: str, **headers: str) -> Response:
 
 def request_login(user: str, password: str) -> Response:
     """The response to a login."""
-    words = base64.b64encode(f"{user}:{password}".encode()).decode()
-    return request_file("/cockpit/login", Authorization=f"Basic {words}")
+    credentials = base64.b64encode(f"{user}:{password}".encode()).decode()
+    return request_file("/cockpit/login", Authorization=f"Basic {credentials}")
 
 
 def order_processes(user: str) -> list[pathlib.Path]:

@@ -92,11 +92,11 @@ class PublishedOrders(GatewayTest):
         self.wait_until_handled()
         self.listener.forget()
         order_count = len(self.orders_of_others())
-        orders = f"{TOPIC_ROOT}/orders"
-        self.broker.publish(orders, "x" * 20000)
-        self.broker.publish(orders, bytes(1000000))
-        self.broker.publish(orders, "0" * 300 + "\nli\0st\nlearn on\r\nlearn off")
-        self.assert_logged(f"message on '{orders}' ignored: 20000 bytes, the maximum is 16384")
+        topic = f"{TOPIC_ROOT}/orders"
+        self.broker.publish(topic, "x" * 20000)
+        self.broker.publish(topic, bytes(1000000))
+        self.broker.publish(topic, "0" * 300 + "\nli\0st\nlearn on\r\nlearn off")
+        self.assert_logged(f"message on '{topic}' ignored: 20000 bytes, the maximum is 16384")
         with self.subTest("the answers"):
             errors = [f'{{"error":"{error}","type":"error"}}' for error in ("too_long", "syntax")]
             self.assert_soon(self.answer_lines, [*errors, OK, OK])

@@ -356,8 +356,8 @@ class ShownContents(PageTest):
         for payload in ("00007F08", "00006008", "00008008", "00006808"):
             stick.bring("01800A02", f"A5 {payload}")
         self.wait_for_text(self.row("01800A02"), "Temperature 23.69 °C")
-        points = "return document.querySelector(arguments[0]).getAttribute('points').split(' ').length"
-        self.wait(lambda: browser.run(points, self.row("01800A02") + " polyline"), lambda count: count == 4)
+        count_points = "return document.querySelector(arguments[0]).getAttribute('points').split(' ').length"
+        self.wait(lambda: browser.run(count_points, self.row("01800A02") + " polyline"), lambda count: count == 4)
         self.shoot("devices")
 
     def test_devices_are_sorted_filtered_and_highlighted(self):
@@ -476,8 +476,8 @@ class ShownContents(PageTest):
         self.machine.enable("roof")
         self.addCleanup(self.machine.disable, "roof")
         self.open()
-        names = "return [...document.querySelectorAll('[data-gateway]')].map(tab => tab.textContent)"
-        self.assertEqual(browser.run(names), ["hall", "roof", "shed", "yard"])
+        get_names = "return [...document.querySelectorAll('[data-gateway]')].map(tab => tab.textContent)"
+        self.assertEqual(browser.run(get_names), ["hall", "roof", "shed", "yard"])
         self.addCleanup(browser.run, FORGET_GATEWAY)
         browser.click("[data-gateway=roof]")
         self.wait_for_text("#attention", "/var/log/enogate/roof.lines is missing", "The gateway roof is stopped")
@@ -1124,8 +1124,8 @@ class PageOnPhone(PageTest):
         self.open_tab("devices")
         browser.click("label.check")
         browser.type("#search", "01800F0")
-        titles = "return [...document.querySelectorAll('#devices-rows th')].map(cell => cell.textContent)"
-        self.wait(lambda: browser.run(titles), lambda observation: observation[:2] == ["2.14 (1)", "Kitchen (2)"],
+        get_titles = "return [...document.querySelectorAll('#devices-rows th')].map(cell => cell.textContent)"
+        self.wait(lambda: browser.run(get_titles), lambda observation: observation[:2] == ["2.14 (1)", "Kitchen (2)"],
                   "the groups")
         self.assertEqual(browser.run(FIND_UNFIT_ELEMENTS, *PHONE), [])
         self.shoot("phone-groups-by-word")

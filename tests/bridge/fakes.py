@@ -117,7 +117,7 @@ class FakeBroker:
         self.memory: dict[str, str] = {}
         self.connection: FakeConnection | None = None
         self.readers: list[FakeConnection] = []
-        self.loss_reasons: list[str] = []
+        self.given_loss_reasons: list[str] = []
         # what the bridge has reported about the connection
         self.messages: list[str] = []
         self.due = 0.0
@@ -139,7 +139,7 @@ class FakeBroker:
         return self.connection
 
     def lose(self, reason: str = "") -> None:
-        self.loss_reasons.append(reason)
+        self.given_loss_reasons.append(reason)
         self.connection = None
 
     def turn(self):

@@ -271,7 +271,7 @@ class WholeBridge(LogTest):
         self.fixture.run_turns(1)
         self.fixture.broker.readers[-1].is_lost = True
         self.fixture.run_turns(1)
-        self.assertEqual(self.fixture.broker.loss_reasons,
+        self.assertEqual(self.fixture.broker.given_loss_reasons,
                          ["it is lost (on the connection that reads what is retained)"])
         self.assertEqual((self.fixture.bridge.connection, self.fixture.bridge.reader), (None, None))
         self.assertTrue(self.fixture.broker.readers[-1].is_closed)
@@ -1088,7 +1088,7 @@ class WholeBridge(LogTest):
             raise ConnectionLost("not connected")
         failing_reader.request_retained = failing_request
         self.fixture.run_turns(3)
-        self.assertEqual(self.fixture.broker.loss_reasons, ["not connected"])
+        self.assertEqual(self.fixture.broker.given_loss_reasons, ["not connected"])
 
     def test_an_order_in_the_turn_of_a_loss(self):
         self.start()

@@ -57,19 +57,19 @@ class PrintedMessages(CommandTest):
         """What is published on this subtopic for each of the readings."""
         topic_start = f"{DEVICE}/{subtopic} retained "
         messages, _ = self.printed_messages(*(reading(eep, members) for members in readings))
-        return [members.removeprefix(topic_start) for members in messages if members.startswith(topic_start)]
+        return [message.removeprefix(topic_start) for message in messages if message.startswith(topic_start)]
 
     def test_what_is_printed(self):
         """A line that is no JSON is reported. The last line is of a type that the bridge does not have to know."""
         messages, journal = self.printed_messages(ACCEPTED, '{"dbm":-45,"eep":"D5', READING, PACKET)
-        self.assertEqual([members for members in messages if not members.startswith("homeassistant/")], [
+        self.assertEqual([message for message in messages if not message.startswith("homeassistant/")], [
             f"enogate/hall/lines - {ACCEPTED}",
             f"enogate/hall/lines - {READING}",
             f"{DEVICE}/CO retained closed",
             f"{DEVICE}/dbm retained -45",
             f"enogate/hall/lines - {PACKET}",
         ])
-        self.assertEqual(sum(members.startswith(f"{CONTACT_CONFIG} retained {{") for members in messages), 1)
+        self.assertEqual(sum(message.startswith(f"{CONTACT_CONFIG} retained {{") for message in messages), 1)
         self.assertEqual(journal, ["enogate-mqtt: invalid line ignored: b'{\"dbm\":-45,\"eep\":\"D5'"])
 
     def test_decimal_numbers(self):
@@ -98,9 +98,9 @@ class PrintedMessages(CommandTest):
             reading("D5-00-01", {"name": "CO", "word": "closed"}, device="+"),
         ]
         messages, journal = self.printed_messages(*no_lines, *not_understood)
-        self.assertEqual(messages, [f"enogate/hall/lines - {members}" for members in not_understood])
+        self.assertEqual(messages, [f"enogate/hall/lines - {line}" for line in not_understood])
         line_starts = ("invalid line ignored: ", "line with unexpected members, not decoded: ")
-        self.assertEqual([sum(start in members for members in journal) for start in line_starts],
+        self.assertEqual([sum(start in entry for entry in journal) for start in line_starts],
                          [len(no_lines), len(not_understood)])
 
     def test_presses(self):
@@ -113,9 +113,9 @@ class PrintedMessages(CommandTest):
             [{"name": "buttons", "word": "three_or_four"}, pressed],
             [{"name": "R1", "out_of_range": 5}, pressed],
         )))
-        self.assertEqual([members for members in messages if "/press" in members.split(" ")[0]], [
-            f'{DEVICE}/press - {{"event_type":"{members}"}}'
-            for members in ("AI", "B0", "released", "released", "three_or_four")
+        self.assertEqual([message for message in messages if "/press" in message.split(" ")[0]], [
+            f'{DEVICE}/press - {{"event_type":"{event_type}"}}'
+            for event_type in ("AI", "B0", "released", "released", "three_or_four")
         ])
 
     def test_lists(self):
@@ -128,26 +128,26 @@ class PrintedMessages(CommandTest):
                 messages, _ = self.printed_messages(ACCEPTED, READING, *lines)
                 self.assertEqual(messages.count(DELETED.format(CONTACT_CONFIG)), count)
 
-    def test_another_profile(self):
+    def test_a_changed_profile(self):
         """The device is announced again, and what was retained for its first profile is deleted."""
         teach_line = '{"eep":"A5-02-05","id":"01800ABC","maker":70,"result":"accepted","type":"teach"}'
         messages_before, _ = self.printed_messages(ACCEPTED, READING)
         messages, _ = self.printed_messages(ACCEPTED, READING, teach_line)
         self.assertEqual(messages[: len(messages_before)], messages_before)
         config_form = "homeassistant/sensor/enogate_hall/01800ABC_{}/config retained"
-        self.assertEqual([members.split(" {")[0] for members in messages[len(messages_before) :]], [
+        self.assertEqual([message.split(" {")[0] for message in messages[len(messages_before) :]], [
             "enogate/hall/lines -", *map(DELETED.format, (f"{DEVICE}/CO", f"{DEVICE}/dbm", CONTACT_CONFIG)),
             *map(config_form.format, ("TMP", "dbm", "last_seen")),
         ])
 
     def test_discovery(self):
         messages, _ = self.printed_messages(ACCEPTED, READING, MQTT_DISCOVERY="")
-        self.assertEqual([members.split(" ")[0] for members in messages],
+        self.assertEqual([message.split(" ")[0] for message in messages],
                          ["enogate/hall/lines", "enogate/hall/lines", f"{DEVICE}/CO", f"{DEVICE}/dbm"])
         messages, _ = self.printed_messages(ACCEPTED, MQTT_DISCOVERY="ha/found")
         self.assertEqual(
-            sum(members.startswith("ha/found/binary_sensor/enogate_hall/01800ABC_CO/config retained {")
-                for members in messages), 1)
+            sum(message.startswith("ha/found/binary_sensor/enogate_hall/01800ABC_CO/config retained {")
+                for message in messages), 1)
 
 
     def test_expiry(self):
@@ -157,8 +157,8 @@ class PrintedMessages(CommandTest):
                                           ({"MQTT_EXPIRE_AFTER": "60"}, [60, 60]), ({"MQTT_EXPIRE_AFTER": ""}, [])):
             with self.subTest(variables):
                 messages = self.printed_messages(ACCEPTED, temperature, **variables)[0]
-                self.assertEqual([int(members) for members in re.findall('"expire_after":([0-9]+)',
-                                                                         "\n".join(messages))], expected_times)
+                self.assertEqual([int(digits) for digits in re.findall('"expire_after":([0-9]+)',
+                                                                       "\n".join(messages))], expected_times)
 
 
 class RefusedArguments(CommandTest):

@@ -215,9 +215,9 @@ class PahoConnection(LogTest):
         original_client = module.Client
 
         def client(**options):
-            mqtt_connection = original_client(**options)
-            mqtt_connection.connect = unittest.mock.Mock(side_effect=ConnectionRefusedError(111, "Connection refused"))
-            return mqtt_connection
+            paho_client = original_client(**options)
+            paho_client.connect = unittest.mock.Mock(side_effect=ConnectionRefusedError(111, "Connection refused"))
+            return paho_client
         module.Client = client
         with self.assertRaisesRegex(ConnectionLost, "^Connection refused$"):
             self.connect(module=module)
@@ -475,13 +475,13 @@ class PahoConnection(LogTest):
 class ScriptedConnection:
     """A connection that does what the test says."""
 
-    def __init__(self, clock, loss_reason=None, opens=True):
-        self.clock, self.loss_reasons, self.opens = clock, loss_reason, opens
+    def __init__(self, clock, loss=None, opens=True):
+        self.clock, self.loss, self.opens = clock, loss, opens
         self.is_open, self.missing_right, self.began_at, self.closed = False, "", clock(), False
 
     def turn(self, _seconds):
-        if self.loss_reasons:
-            raise self.loss_reasons
+        if self.loss:
+            raise self.loss
         self.is_open = self.opens
 
     def close(self):
@@ -502,7 +502,7 @@ class BrokerReconnection(LogTest):
         self.versions.append(version)
         self.attempt_times = getattr(self, "attempt_times", []) + [self.clock()]
         self.session = ScriptedConnection(self.clock, *(self.sessions.pop(0) if self.sessions else ()))
-        if isinstance(self.session.loss_reasons, OSError):
+        if isinstance(self.session.loss, OSError):
             raise ConnectionLost("cannot connect")
         return self.session
 
@@ -531,7 +531,7 @@ class BrokerReconnection(LogTest):
         for _ in range(3):
             while not (self.broker.connection and self.broker.connection.is_open):
                 self.turn()
-            self.session.loss_reasons = ConnectionLost("x")
+            self.session.loss = ConnectionLost("x")
             self.turn()
         self.sessions = [(OSError(),)] * 20
         while self.sessions:
@@ -621,7 +621,7 @@ class BrokerReconnection(LogTest):
         self.broker.pause = 32
         self.run_turns(2)
         self.clock.now += connection.MAX_PAUSE + 1
-        self.session.loss_reasons = ConnectionLost("x")
+        self.session.loss = ConnectionLost("x")
         self.run_turns(1)
         self.assertEqual(self.broker.due, self.clock() + 1)
         self.assertEqual((self.session.closed, self.broker.connection), (True, None))
@@ -630,7 +630,7 @@ class BrokerReconnection(LogTest):
         self.broker.pause = 32
         self.run_turns(2)
         self.clock.now += connection.MAX_PAUSE
-        self.session.loss_reasons = ConnectionLost("x")
+        self.session.loss = ConnectionLost("x")
         self.run_turns(1)
         self.assertEqual(self.broker.due, self.clock() + 32)
 
@@ -644,7 +644,7 @@ class BrokerReconnection(LogTest):
         for _ in range(4):
             while not (self.broker.connection and self.broker.connection.is_open):
                 self.turn()
-            self.session.loss_reasons = ConnectionLost("x")
+            self.session.loss = ConnectionLost("x")
             self.turn()
         self.assert_logged("is there another bridge with this name?")
         self.assertEqual((connection.SHORT_CONNECTION, connection.OFTEN_SHORT), (10, 3))
@@ -654,7 +654,7 @@ class BrokerReconnection(LogTest):
             while not (self.broker.connection and self.broker.connection.is_open):
                 self.turn()
             self.clock.now += seconds
-            self.session.loss_reasons = ConnectionLost("x")
+            self.session.loss = ConnectionLost("x")
             self.turn()
         self.assert_logged("is there another bridge", 0)
 
@@ -662,7 +662,7 @@ class BrokerReconnection(LogTest):
         for _ in range(2):
             while not (self.broker.connection and self.broker.connection.is_open):
                 self.turn()
-            self.session.loss_reasons = ConnectionLost("x")
+            self.session.loss = ConnectionLost("x")
             self.turn()
         self.assert_logged("no connection to h:1883: x", 2)
 
@@ -674,7 +674,7 @@ class BrokerReconnection(LogTest):
             while not (self.broker.connection and self.broker.connection.is_open):
                 self.turn()
             self.clock.now += connection.SHORT_CONNECTION
-            self.session.loss_reasons = ConnectionLost("x")
+            self.session.loss = ConnectionLost("x")
             self.turn()
         self.assert_logged("is there another bridge", 0)
 
@@ -687,7 +687,7 @@ class DayWithoutBroker(LogTest):
 
     def setUp(self):
         super().setUp()
-        self.fixture, self.session, self.attempts = BridgeFixture(self), None, 0
+        self.fixture, self.session, self.attempt_count = BridgeFixture(self), None, 0
         self.reasons = ["Connection refused"]
         # all pauses are as short as they may be
         self.fixture.broker = Broker(self.connect, "h:1883", self.fixture.clock, lambda: 0.0)
@@ -698,8 +698,8 @@ class DayWithoutBroker(LogTest):
     def connect(self, _version, _is_reader):
         if self.session:
             return self.session
-        self.attempts += 1
-        raise ConnectionLost(self.reasons[self.attempts % len(self.reasons)])
+        self.attempt_count += 1
+        raise ConnectionLost(self.reasons[self.attempt_count % len(self.reasons)])
 
     def run_turns(self, count, answers=True):
         """Turns in which one of 50 devices sends, and the gateway answers the bridge, or does not."""
@@ -722,7 +722,7 @@ class DayWithoutBroker(LogTest):
         self.assertEqual(self.logged_lines, [
             "WARNING: no connection to h:1883: Connection refused",
             "WARNING: broker unavailable or too slow: 500 lines kept, dropping the oldest"])
-        self.assertGreaterEqual(self.attempts, self.TURNS // 2)
+        self.assertGreaterEqual(self.attempt_count, self.TURNS // 2)
         self.assertEqual(len(bridge.outbox.entries), self.KEPT_LINES)
         self.returns()
         self.assertEqual(self.logged_lines[2:], ["INFO: connected to h:1883"])

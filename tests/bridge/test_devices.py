@@ -157,9 +157,9 @@ class DeviceMessages(unittest.TestCase):
         """It makes no discovery messages: those of 1,000 devices take a second, and a press behind the list waits."""
         lines = listing(("01800ABC", "A5-02-05", "Attic"), ("01800ABD", "D2-01-12", ""))
         self.published_for(*lines)
-        with mock.patch("enogate_mqtt.discovery.device_configs") as configs:
+        with mock.patch("enogate_mqtt.discovery.device_configs") as device_configs:
             self.published_for(*lines, learned("01800ABC"))
-            self.assertEqual((configs.call_count, self.configs, self.devices.list_count), (0, [], 2))
+            self.assertEqual((device_configs.call_count, self.configs, self.devices.list_count), (0, [], 2))
         for changed_device in (("01800ABC", "A5-02-05", "Cellar"), ("01800ABC", "A5-04-01", "Cellar")):
             self.published_for(*listing(changed_device, ("01800ABD", "D2-01-12", "")))
             self.assertTrue(self.configs)

@@ -147,12 +147,12 @@ class Devices(unittest.TestCase):
     """The messages of a device together."""
 
     def test_the_channels_of_an_actuator(self):
-        start = {f"{kind}_{number}" for number in [0, 1] for kind in [
+        expected_keys = {f"{kind}_{number}" for number in [0, 1] for kind in [
             "switch OV", "binary_sensor PF", "binary_sensor PFD", "binary_sensor OC", "sensor EL", "binary_sensor LC"]}
-        start |= {"sensor dbm", "sensor last_seen"}
-        self.assertEqual(set(device_configs("D2-01-12")), start)
+        expected_keys |= {"sensor dbm", "sensor last_seen"}
+        self.assertEqual(set(device_configs("D2-01-12")), expected_keys)
         self.assertEqual(set(device_configs("D2-01-12", "IO", "OV", "OV/1", "MV_W/0", "MV", "dbm")),
-                         start | {"sensor MV_W_0"})
+                         expected_keys | {"sensor MV_W_0"})
 
     def test_channel_30_takes_no_command(self):
         config_keys = device_configs("D2-01-0F", "OV/30", "OV/29", "PF/30").keys()
@@ -371,11 +371,11 @@ class Descriptions(unittest.TestCase):
 
     def test_the_table_of_manufacturers(self):
         rows = list(share.table_lines("manufacturers"))
-        for line in rows:
-            self.assertRegex(line, r"^[0-7][0-9A-F]{2}\t\S[^\t]*\S$")
-        manufacturer_ids = [line[:3] for line in rows]
+        for row in rows:
+            self.assertRegex(row, r"^[0-7][0-9A-F]{2}\t\S[^\t]*\S$")
+        manufacturer_ids = [row[:3] for row in rows]
         self.assertEqual(manufacturer_ids, sorted(set(manufacturer_ids)))
-        self.assertEqual(len({line[4:] for line in rows}), len(rows))
+        self.assertEqual(len({row[4:] for row in rows}), len(rows))
         self.assertLess(int(manufacturer_ids[-1], 16), 2047)
 
 

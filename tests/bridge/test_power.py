@@ -248,12 +248,12 @@ class RandomHistories(LogTest):
     def check(self):
         """Each press is an event once at most, in the run in which it was written, and on `lines` at least once, but
         never after the boot in which it was written. Without a failure that is in the sequence of the presses."""
-        for first_of_boot, events_of_run, connection in self.connections:
+        for first_of_boot, first_of_run, connection in self.connections:
             events = self.numbers(connection, "/press")
             lines = self.numbers(connection, "/lines")
             self.assertEqual(events, sorted(set(events)))
             self.assertEqual(lines, sorted(set(lines)))
-            self.assertTrue(all(number >= events_of_run for number in events), (events_of_run, events))
+            self.assertTrue(all(number >= first_of_run for number in events), (first_of_run, events))
             self.assertTrue(all(number >= first_of_boot for number in lines), (first_of_boot, lines))
         published_numbers = {number for *_, connection in self.connections
                              for number in self.numbers(connection, "/lines")}

@@ -43,8 +43,8 @@ class ReconcilerTurns(LogTest):
     def turn(self, seconds=0.1):
         self.reconciler.turn(self.connection)
         self.connection.turn(0)
-        received, self.connection.received_messages = self.connection.received_messages, []
-        for message in received:
+        received_messages, self.connection.received_messages = self.connection.received_messages, []
+        for message in received_messages:
             self.reconciler.handle_retained(message.topic, message.payload.decode())
         self.clock.now += seconds
 

@@ -183,7 +183,7 @@ class ProgramStart(LogTest):
             handler_by_signal.append((topics.name, broker.name, devices.may_adopt, devices.removed_topics,
                                       devices.expire_after,
                                       follower.path, desk.path, requests.learn_for))
-            store.save(main.START_OF_NO_FILE, [], {}, {"x/y"})
+            store.save(main.NO_POSITION, [], {}, {"x/y"})
             store.connection.close()
         files = (str(fixture.lines), str(fixture.desk), 60)
         self.assertEqual(handler_by_signal, [("hall", "localhost:1883", True, set(), 7200, *files),
@@ -220,7 +220,7 @@ class ProgramStart(LogTest):
         """The messages below the old prefix are deleted."""
         fixture = BridgeFixture(self)
         store = main.Store(str(fixture.state), "old")
-        store.save(main.START_OF_NO_FILE, ["01800ABC"], {"01800ABC": Device("01800ABC", "D5-00-01", "")}, set())
+        store.save(main.NO_POSITION, ["01800ABC"], {"01800ABC": Device("01800ABC", "D5-00-01", "")}, set())
         second_store = main.Store(str(fixture.state), "new")
         topics = main.old_discovery_topics(main.Topics("hall", "new"), second_store)
         self.assertIn("old/binary_sensor/enogate_hall/01800ABC_CO/config", topics)

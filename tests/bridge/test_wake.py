@@ -121,11 +121,11 @@ class FileWaits(LogTest):
 
     def test_without_inotify(self):
         with unittest.mock.patch.object(ctypes, "CDLL", side_effect=OSError("none")):
-            was_waiting = Waiter(["/log/hall.lines"])
-        self.addCleanup(os.close, was_waiting.stops)
-        with unittest.mock.patch.object(wake.select, "select", return_value=([], [], [])) as look_count:
-            was_waiting.wait([], 1.0, True)
-        look_count.assert_called_once_with([was_waiting.stops], [], [], 0.1)
+            waiter = Waiter(["/log/hall.lines"])
+        self.addCleanup(os.close, waiter.stops)
+        with unittest.mock.patch.object(wake.select, "select", return_value=([], [], [])) as select:
+            waiter.wait([], 1.0, True)
+        select.assert_called_once_with([waiter.stops], [], [], 0.1)
 
 
 class ConnectionWaits(LogTest):

@@ -77,8 +77,8 @@ class SheetTest(unittest.TestCase):
                 rows.append(",".join([f"01800A{len(rows):02X}", "D5-00-01"] + [text if column == column_index else "1"
                                                                                for column in range(4)]))
         self.assert_refused("\n".join([heads, *rows]), *faults)
-        row_at_limits = "01800ABC,D5-00-01,-9999,9999,-99,999999\n01800ABD,D5-00-01,9999,-9999,99.0,0\n"
-        self.assertEqual(read_sheet(f"{heads}\n{row_at_limits}"),
+        rows_at_limits = "01800ABC,D5-00-01,-9999,9999,-99,999999\n01800ABD,D5-00-01,9999,-9999,99.0,0\n"
+        self.assertEqual(read_sheet(f"{heads}\n{rows_at_limits}"),
                          [Row(DEVICE, "D5-00-01", Place(-9999, 9999, -99), 999999),
                                               Row(0x01800ABD, "D5-00-01", Place(9999, -9999, 99), 0)])
 

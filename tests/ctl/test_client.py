@@ -33,10 +33,10 @@ class ClientTest(GatewayFilesTest):
 
     def setUp(self):
         super().setUp()
-        self.forks = 0
+        self.fork_count = 0
 
     def fork(self):
-        self.forks += 1
+        self.fork_count += 1
         return 1
 
     def make_client(self, timeout=10.0):
@@ -64,7 +64,7 @@ class OrderAnswers(ClientTest):
         answer = self.make_client().ask("learn on")
         self.assertEqual(([line.members for line in answer.lines], answer.error), ([OK], None))
         self.assertEqual(self.desk.read_bytes(), b"status\nstatus\nlearn on\nstatus\r\n")
-        self.assertEqual((self.clock.slept, self.forks), ([PAUSE] * 3, 0))
+        self.assertEqual((self.clock.slept, self.fork_count), ([PAUSE] * 3, 0))
 
     def test_an_error(self):
         self.clock.acts[1] = lambda: self.write(status(), status(), error("unsupported_profile"), status())
@@ -99,7 +99,7 @@ class OrderAnswers(ClientTest):
     def test_a_locked_desk(self):
         other = self.lock()
         self.assert_no_answer(LOCKED_TEXT, timeout=0.05)
-        self.assertEqual((len(self.clock.slept), self.desk.read_text(), self.forks), (5, "", 0))
+        self.assertEqual((len(self.clock.slept), self.desk.read_text(), self.fork_count), (5, "", 0))
         self.clock.slept.clear()
         self.clock.acts[2] = lambda: os.close(other) or self.opened.clear()
         self.clock.acts[4] = lambda: self.write(*ANSWER)
@@ -111,7 +111,7 @@ class OrderAnswers(ClientTest):
         self.clock.acts[3] = lambda: os.close(other) or self.opened.clear()
         self.assert_no_answer("the gateway did not answer within 0.05 s, and may still carry out the order: check the "
                               "gateway with enogate-check", timeout=0.05)
-        self.assertEqual((len(self.clock.slept), self.forks), (5, 1))
+        self.assertEqual((len(self.clock.slept), self.fork_count), (5, 1))
 
     def test_an_answer_at_the_last_moment(self):
         self.clock.acts[5] = lambda: self.write(*ANSWER)
@@ -142,7 +142,7 @@ class OrderAnswers(ClientTest):
         self.stops_at_the_first_line()
         self.clock.acts[2] = lambda: self.write(*ANSWER)
         self.assertRaises(Stopped, self.make_client().ask, "learn on")
-        self.assertEqual(self.forks, 0)
+        self.assertEqual(self.fork_count, 0)
 
     def test_a_stop_while_it_reads_half_of_the_answer(self):
         """The process that keeps the lock finds the answer when the rest of it comes."""
@@ -159,18 +159,18 @@ class OrderAnswers(ClientTest):
             self.assertRaises(Stopped, self.make_client().ask, "learn on")
         self.assertAlmostEqual(kept[0], LONG_PAUSE)
 
-    def assert_stop(self, forks):
+    def assert_stop(self, fork_count):
         """A signal stops the command. So many processes keep the lock."""
         def stop():
             raise Stopped(signal.SIGTERM)
         self.clock.acts[2] = stop
         self.assertRaises(Stopped, self.make_client().ask, "learn on")
-        self.assertEqual(self.forks, forks)
+        self.assertEqual(self.fork_count, fork_count)
 
     def test_a_restart(self):
         self.clock.acts[2] = lambda: self.desk.write_text("")
         self.assert_no_answer(RESTARTED_TEXT)
-        self.assertEqual(self.forks, 0)
+        self.assertEqual(self.fork_count, 0)
 
     def test_a_restart_that_is_noticed_late(self):
         """Other programs have written to the desk since, and the lines look like an answer."""
@@ -210,7 +210,7 @@ class OrderAnswers(ClientTest):
         os.truncate(self.desk, 1 << 36)
         with mock.patch("os.pread", read):
             self.assert_no_answer(f"the desk {self.desk} has more than 16 MB: restart the gateway, which empties it")
-        self.assertEqual((self.desk.stat().st_size, self.forks), (1 << 36, 0))
+        self.assertEqual((self.desk.stat().st_size, self.fork_count), (1 << 36, 0))
 
     def test_an_incomplete_line(self):
         with self.lines.open("a") as file:
@@ -297,7 +297,7 @@ class OrdersOfOthers(ClientTest):
                 self.assertAlmostEqual(sum(self.clock.slept), client.timeout, delta=PAUSE)
             else:
                 self.assertEqual(len(client.ask_all(orders)), 5)
-        self.assertEqual(self.forks, 1)
+        self.assertEqual(self.fork_count, 1)
 
     def test_only_answers_give_time(self):
         """Status lines of other programs do not, nor do answers to their orders. One that looks like the first answer
@@ -328,9 +328,9 @@ class OrdersOfOthers(ClientTest):
                 "or `status` whether the order was carried out, and give it again if not")
         for other in (self.others, "list", "status"):
             with self.subTest(other), self.write_at_once(other):
-                self.forks = 0
+                self.fork_count = 0
                 self.assert_no_answer(text)
-                self.assertEqual((self.clock.slept, self.forks), ([], 1))
+                self.assertEqual((self.clock.slept, self.fork_count), ([], 1))
         for other in ("status\n", "status\nlist\n"):
             with self.subTest(other), self.write_at_once(other):
                 self.clock.acts[len(self.clock.slept) + 1] = lambda: self.write(*ANSWER)
@@ -494,7 +494,7 @@ class UnusableFiles(ClientTest):
             self.assert_no_answer(f"the desk {self.desk} cannot be opened: Permission denied; become root, or a member "
                                   "of the group enogate (log in again afterwards)")
 
-    def test_no_file(self):
+    def test_a_desk_that_is_a_pipe(self):
         self.desk.unlink()
         os.mkfifo(self.desk)
         before = len(os.listdir("/proc/self/fd"))
@@ -576,10 +576,10 @@ class UnusableFiles(ClientTest):
                 for left, orders in ((free, text), (more, b"base\n"), (99, b"learn off\n")):
                     self.append(orders, left)
                 with self.subTest(free=free, more=more):
-                    *lines, rest = self.desk.read_bytes().split(b"\n")
+                    *desk_lines, unended_line = self.desk.read_bytes().split(b"\n")
                     known = [*text.split(b"\n"), b"list", b"base", b"learn off"]
-                    self.assertEqual([line for line in lines if line not in known and b"\x15" not in line], [])
-                    self.assertEqual((lines[-1], rest), (b"learn off", b""))
+                    self.assertEqual([line for line in desk_lines if line not in known and b"\x15" not in line], [])
+                    self.assertEqual((desk_lines[-1], unended_line), (b"learn off", b""))
 
     def append(self, orders, left):
         """Appends orders to a desk whose file system has so many bytes left."""

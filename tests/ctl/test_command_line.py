@@ -250,7 +250,8 @@ CH                  a channel, 0 to 30
         page = (ROOT / "contrib/enogatectl.1").read_text().replace("\\-", "-")
         self.assertIn(f"The default is {command_line.TIMEOUT:g}.", page)
         forms, examples = re.findall(r"(?ms)^\.EX\n(.*?)^\.EE$", page)
-        self.assertEqual(forms.splitlines(), [form for order in grammar.FORMS_BY_VERB.values() for form, _ in order])
+        self.assertEqual(forms.splitlines(), [
+            form for forms_of_verb in grammar.FORMS_BY_VERB.values() for form, _ in forms_of_verb])
         for line in examples.splitlines():
             name, *words = shlex.split(line.partition(" >")[0])
             self.assertEqual((name, parsed(words).paths), ("enogatectl", HALL))

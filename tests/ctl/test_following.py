@@ -73,7 +73,7 @@ class PrintedLines(GatewayFilesTest):
                              ["a", "b", "", "d", ""])
         self.assertEqual(out.getvalue(), "")
 
-    def test_no_file(self):
+    def test_a_file_that_does_not_exist_yet(self):
         self.lines.unlink()
         self.assertEqual(self.printed(lambda: self.write("a"), lambda: None), ["", "a", ""])
 

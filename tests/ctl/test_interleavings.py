@@ -118,16 +118,16 @@ class InterleavingCase:
         lines; or a fence has failed."""
         if any(event.who == "own" and event.order == "status" and not event.is_status for event in self.seen):
             return any(event.who == "other" and event.is_status for event in self.seen)
-        statuses = own = 0
+        status_count = own = 0
         for event in self.seen:
             own += event.who == "own"
             if own > self.finder.least or event.who == "restart" or self.order == "status":
                 return False
             if event.is_status:
-                statuses += 1
+                status_count += 1
             elif event.who == "other" and not is_shared(event.lines[-1]):
-                statuses = 0
-            elif statuses >= self.finder.least > own and (event.order == "status" or (
+                status_count = 0
+            elif status_count >= self.finder.least > own and (event.order == "status" or (
                     event.is_failed_packet and not self.explains)):
                 return True
         return False

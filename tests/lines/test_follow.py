@@ -6,7 +6,7 @@ import tempfile
 import unittest
 from unittest import mock
 
-from enogate_lines.follow import MAX_READ, START_OF_NO_FILE, Follower, Position, position_at_end, rotated_files
+from enogate_lines.follow import MAX_READ, NO_POSITION, Follower, Position, position_at_end, rotated_files
 
 # How long these tests may take, in seconds. One that waits for a pipe ends the run, which fails.
 MAX_TEST_SECONDS = 120
@@ -240,7 +240,7 @@ class FollowedFiles(unittest.TestCase):
         self.assertFalse(self.follower(position).is_found)
         self.path.unlink()
         follower_of_gone = Follower(str(self.path), position, self.logged_lines.append, is_same_boot=False)
-        self.assertEqual((follower_of_gone.is_found, follower_of_gone.position), (False, START_OF_NO_FILE))
+        self.assertEqual((follower_of_gone.is_found, follower_of_gone.position), (False, NO_POSITION))
 
     def test_a_file_that_is_truncated(self):
         """What is left of it is not read again."""

@@ -70,7 +70,7 @@ class FakeChecker:
         if "DEEP" in all_sources:
             return CheckReport(3, "src/lib.rt:1:1: error: antt ran out of steps\nantt ran out of the steps\n")
         verdict_by_name = {name: "proved" for name in FUNCTION_NAMES}
-        functions = [source for path, text in texts.items() for source in split_functions(path, text)[0]]
+        functions = [function for path, text in texts.items() for function in split_functions(path, text)[0]]
         for name, function in zip(FUNCTION_NAMES, functions):
             if "HIDDEN" in function.body:
                 del verdict_by_name[name]
@@ -80,13 +80,13 @@ class FakeChecker:
             if word in all_sources:
                 verdict_by_name[name] = "not proved"
         for name, callees in CALLEES_BY_FUNCTION.items():
-            refused_names = [source for source in callees if verdict_by_name.get(source, "proved") != "proved"]
+            refused_names = [callee for callee in callees if verdict_by_name.get(callee, "proved") != "proved"]
             if refused_names and verdict_by_name.get(name) == "proved":
                 verdict_by_name[name] = f"no proof: it calls {refused_names[0]}, which is not proved"
         if only:
             reached_names = {*only, *(callee for name in only for callee in CALLEES_BY_FUNCTION.get(name, []))}
             verdict_by_name = {name: text for name, text in verdict_by_name.items() if name in reached_names}
-        is_proved = all(source == "proved" for source in verdict_by_name.values())
+        is_proved = all(verdict == "proved" for verdict in verdict_by_name.values())
         lines = [f"fn {name}: {text}" for name, text in verdict_by_name.items()]
         last_line = f"only={len(only)} proved=?" if only else "logic=proved" if is_proved else "logic=not-proved"
         return CheckReport(0 if is_proved else 1, "\n".join([*lines, last_line]) + "\n")

@@ -101,7 +101,7 @@ class CheckerTest(CrateFolderTest):
     def test_what_the_checks_cost(self):
         self.checker.check_unchanged()
         self.checker.check({})
-        self.assertEqual(self.checker.checks, 2)
+        self.assertEqual(self.checker.check_count, 2)
         self.assertGreater(self.checker.seconds, 0)
 
     def test_a_file_with_a_proof_is_linked_and_others_are_copied(self):

@@ -120,12 +120,11 @@ class CallGraphTest(CrateFolderTest):
         self.assertEqual(callees_by_name["k"], set())
 
     def mutants_of_texts(self, *texts):
-        replaced_texts = [("src/lib.rt", f"    {replaced_text}", f"    WRONG {replaced_text}")
-                          for replaced_text in texts]
+        edits = [("src/lib.rt", f"    {old_text}", f"    WRONG {old_text}") for old_text in texts]
         return [
             read_mutant(self.folder,
-                        self.write_file(f"mutants/{index}.edit", mutant_text(replaced_text[0], replaced_text[1:])))
-            for index, replaced_text in enumerate(replaced_texts)
+                        self.write_file(f"mutants/{index}.edit", mutant_text(edit[0], edit[1:])))
+            for index, edit in enumerate(edits)
         ]
 
     def test_no_caller_is_beside_its_callee_and_no_function_is_twice(self):

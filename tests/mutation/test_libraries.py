@@ -107,8 +107,8 @@ class BuiltLibrariesTest(CrateFolderTest):
 
     def test_a_note_is_gone_while_the_command_runs(self):
         self.build_and_note()
-        is_gone = f"import os, sys; sys.exit(os.path.exists({self.root!r} + '/{libraries.NOTE_FILE}'))"
-        self.assertEqual(self.build_and_note(sys.executable, "-c", is_gone), 0)
+        exit_if_gone = f"import os, sys; sys.exit(os.path.exists({self.root!r} + '/{libraries.NOTE_FILE}'))"
+        self.assertEqual(self.build_and_note(sys.executable, "-c", exit_if_gone), 0)
 
     def test_a_source_that_changes_while_the_command_runs(self):
         self.assertEqual(self.build_and_note("sh", "-c", f"echo >{self.low_crate.folder}/src/lib.rt"), 0)

@@ -47,12 +47,12 @@ class DigestTest(CrateFolderTest):
         self.low_crate = fake_crate(f"{self.root}/low", "low")
         self.tiny = fake_crate(self.folder, "tiny", self.low_crate)
 
-    def mutant_digests(self, text="old: a\nnew: b\n", logic="a1", crate=None, function="once"):
+    def mutant_digests(self, text="old: a\nnew: b\n", logic="a1", crate=None, function_name="once"):
         """The digests of a mutant of this function, or of one that changes more than a body if it is None."""
         with open(f"{self.folder}/src/lib.rt", encoding="utf-8") as file:
-            functions_by_name = {file.name: file for file in split_functions("src/lib.rt", file.read())[0]}
+            functions_by_name = {function.name: function for function in split_functions("src/lib.rt", file.read())[0]}
         check_inputs = record.CheckInputs(crate or self.tiny, self.root, logic)
-        return check_inputs.digests(Mutant("a.edit", text, (), functions_by_name.get(function), ""))
+        return check_inputs.digests(Mutant("a.edit", text, (), functions_by_name.get(function_name), ""))
 
     def digests_after_changes(self, *changes):
         """For each of these changes of a file, made by itself, whether each digest stays the same."""
@@ -74,10 +74,10 @@ class DigestTest(CrateFolderTest):
             return file.read()
 
 
-class DigestDependenciesTest(DigestTest):
+class DigestedContentsTest(DigestTest):
     def test_their_form(self):
-        for digest in self.mutant_digests():
-            self.assertRegex(digest, "^[0-9a-f]{16}$")
+        for mutant_digest in self.mutant_digests():
+            self.assertRegex(mutant_digest, "^[0-9a-f]{16}$")
         self.assertNotEqual(*self.mutant_digests())
 
     def test_what_no_check_reads(self):
@@ -190,10 +190,10 @@ class DigestDependenciesTest(DigestTest):
         self.assertEqual(len({mutant_digest.crate_digest for mutant_digest in digests}), len(digests))
 
     def test_a_mutant_of_more_than_a_body_depends_on_all(self):
-        digests_before = self.mutant_digests(function=None)
+        digests_before = self.mutant_digests(function_name=None)
         self.assertEqual(digests_before.function_digest, digests_before.crate_digest)
         self.write_file("src/lib.rt", SOURCE_WITH_OTHER_BODY)
-        self.assertNotEqual(self.mutant_digests(function=None).function_digest, digests_before.function_digest)
+        self.assertNotEqual(self.mutant_digests(function_name=None).function_digest, digests_before.function_digest)
 
     def test_the_order_of_crates_does_not_matter(self):
         lowest, digests = fake_crate(f"{self.root}/lowest", "lowest"), set()
@@ -265,8 +265,8 @@ class RecordFilesTest(CrateFolderTest):
     def write_record(self, digests, **results):
         results_by_name = {name: TryResult(*result_members) for name, result_members in results.items()}
         record.write_record(self.folder, "tiny", digests, results_by_name)
-        with open(f"{self.folder}/tests/mutant-records/tiny", encoding="utf-8") as result_members:
-            return result_members.read()
+        with open(f"{self.folder}/tests/mutant-records/tiny", encoding="utf-8") as file:
+            return file.read()
 
     def test_refusals_with_their_function(self):
         digests = self.mutant_digests(b="bbbb", a="aaaa", c="cccc")
@@ -292,7 +292,7 @@ class RecordFilesTest(CrateFolderTest):
     def test_lines_that_hold(self):
         digests = self.mutant_digests(a="aaaa", b="bbbb", c="cccc", d="dddd", e="eeee", f="ffff")
         lines = ["aaaa a f", "BBBB b -", "CCCC c f", "dddd d -", "eeee e", "ffff f ", "gggg g f", "aaaa b f", ""]
-        self.write_file("tests/mutant-records/tiny", "".join(f"{outcome}\n" for outcome in lines))
+        self.write_file("tests/mutant-records/tiny", "".join(f"{line}\n" for line in lines))
         self.assertEqual(record.valid_records(self.folder, "tiny", digests), {"a": "aaaa a f", "b": "BBBB b -"})
 
     def test_no_record(self):

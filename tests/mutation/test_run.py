@@ -17,7 +17,7 @@ from mutation.verdicts import CheckReport
 class FakeRunChecker(FakeChecker):
     """A checker as Run makes it."""
 
-    checks, seconds, sound, opened = 2, 3.4, True, 0
+    check_count, seconds, sound, opened = 2, 3.4, True, 0
 
     def __init__(self, crate, root):
         assert root and crate.folder.startswith(root)

@@ -43,7 +43,7 @@ class MutantsScriptTest(unittest.TestCase):
     def run_script(self, *words, result_lines=((True, "low/a: refused"),), faults=(), count_faults=(), script=None):
         """The status of a run with these words, what it printed, and what it did."""
         script, actions, output = script or load_script(), [], io.StringIO()
-        crates = [types.SimpleNamespace(name=crate) for crate in ("low", "high")]
+        crates = [types.SimpleNamespace(name=name) for name in ("low", "high")]
 
         def make_run(_root, chosen, lane_count):
             actions.append(f"{' '.join(crate.name for crate in chosen)} in {lane_count}")
@@ -59,8 +59,8 @@ class MutantsScriptTest(unittest.TestCase):
         ):
             try:
                 status = script.main([*words])
-            except SystemExit as crate:
-                status = crate.code
+            except SystemExit as end:
+                status = end.code
         return status, output.getvalue(), actions
 
     def test_all_mutants_of_all_crates(self):

@@ -183,8 +183,8 @@ class CrateTriesTest(CrateFolderTest):
         # (the lines that a killed check printed say `not proved` of a mutant that is proved by itself)
         def killed_in_batches(texts, only=(), check=self.checker.check):
             report = check(texts, only)
-            lines = report.output.replace("Pair::sum: proved", "Pair::sum: not proved")
-            return CheckReport(-9, lines) if "WRONG" in "".join(texts.values()) and len(texts) > 1 else report
+            output = report.output.replace("Pair::sum: proved", "Pair::sum: not proved")
+            return CheckReport(-9, output) if "WRONG" in "".join(texts.values()) and len(texts) > 1 else report
 
         self.checker.check = killed_in_batches
         self.add_mutant("one", (ONCE_BODY, "    WRONG"))

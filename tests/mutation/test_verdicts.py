@@ -117,7 +117,7 @@ class CheckReportTest(unittest.TestCase):
         self.assertIs(self.report_outcome(1, output, "tiny::once")[0], Outcome.NO_RESULT)
 
     def test_which_outcomes_are_refusals(self):
-        refusals = [report for report in Outcome if report.is_refusal]
+        refusals = [outcome for outcome in Outcome if outcome.is_refusal]
         self.assertEqual(refusals, [Outcome.REFUSED_AT_OWN_FUNCTION, Outcome.REFUSED_ALONE, Outcome.REFUSED_BY_LIMIT])
 
 

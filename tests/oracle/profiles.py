@@ -232,8 +232,8 @@ def telegram_readings(eep, rorg, payload, status):
     if eep in FOUR_BYTE_PROFILES:
         return None if payload[3] & 8 == 0 else decoded_fields(FOUR_BYTE_PROFILES[eep], payload, status)
     if eep == "D2-05-00":
-        is_state = len(payload) == 4 and payload[3] & 15 == 4
-        return decoded_fields(BLIND_STATE_FIELDS, payload, status) if is_state else None
+        is_state_message = len(payload) == 4 and payload[3] & 15 == 4
+        return decoded_fields(BLIND_STATE_FIELDS, payload, status) if is_state_message else None
     size, rows = D2_01_MESSAGES.get(payload[0] & 15, (None, None))
     return decoded_fields(rows, payload, status) if len(payload) == size else None
 

@@ -23,7 +23,7 @@ REASONS_BY_COUNTER = {
         "other_message",
     ],
 }
-COUNTER_BY_REASON = {word: count for count, words in REASONS_BY_COUNTER.items() for word in words}
+COUNTER_BY_REASON = {reason: counter for counter, reasons in REASONS_BY_COUNTER.items() for reason in reasons}
 
 # The kinds of telegrams that are data, and the words of data whose sender is learned.
 DATA_TELEGRAM_KINDS = ["data", "RPS press, stranger", "VLD, stranger"]

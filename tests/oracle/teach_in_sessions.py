@@ -574,8 +574,8 @@ def verdicts_full_session():
 def session_without_line(line_number):
     """`every-kind-of-item` without the line of this number, from 1 on."""
     session = Session()
-    lines = [line.decode().strip() for line, _ in session_steps(read_session("every-kind-of-item"))]
-    session.add_lines(*lines[: line_number - 1], *lines[line_number:])
+    all_script_lines = [line.decode().strip() for line, _ in session_steps(read_session("every-kind-of-item"))]
+    session.add_lines(*all_script_lines[: line_number - 1], *all_script_lines[line_number:])
     return session
 
 

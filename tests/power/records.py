@@ -92,8 +92,8 @@ class PowerCutter:
     `places` has the parts of the disk with the files of the gateway: for several sizes of the log, the starts and ends
     of the parts when it had this size."""
 
-    def __init__(self, image, records, extents_by_log_size=()):
-        self.image, self.records, self.extents_by_log_size = image.copy(), records, extents_by_log_size
+    def __init__(self, image, records, sizes_and_extents=()):
+        self.image, self.records, self.sizes_and_extents = image.copy(), records, sizes_and_extents
         # how many records the image has
         self.count = 0
 
@@ -125,7 +125,7 @@ class PowerCutter:
     def is_of_gateway(self, record, start, size):
         """Whether this part of a record is in a file of the gateway."""
         first_byte = record.offset + start
-        extents = next((extents for size_of_log, extents in self.extents_by_log_size if size_of_log >= record.end), [])
+        extents = next((extents for size_of_log, extents in self.sizes_and_extents if size_of_log >= record.end), [])
         return any(extent_start <= first_byte and first_byte + size <= extent_end
                    for extent_start, extent_end in extents)
 

@@ -50,8 +50,8 @@ class AllocationsTest(ProgramTest):
 
     def assert_equal_allocations(self, script, other_script):
         """Runs on these two scripts have as many allocations. Returns what the second one prints."""
-        other_growths, output = self.count_allocations(other_script)
-        self.assertEqual(self.count_allocations(script)[0], other_growths)
+        other_growth_count, output = self.count_allocations(other_script)
+        self.assertEqual(self.count_allocations(script)[0], other_growth_count)
         return output
 
     def allocations_by_packet(self, orders, line, *options):
@@ -85,16 +85,16 @@ class DatabaseQueriesTest(AllocationsTest):
                 )
 
     def test_each_packet_of_a_learned_device_takes_as_much_memory(self):
-        line_count, *other_counts = self.allocations_by_packet(ADD_ORDER, READING_PACKET_LINE)
-        self.assertGreater(line_count, 0)
-        self.assertEqual(other_counts, [line_count, line_count])
+        count_of_line, *other_counts = self.allocations_by_packet(ADD_ORDER, READING_PACKET_LINE)
+        self.assertGreater(count_of_line, 0)
+        self.assertEqual(other_counts, [count_of_line, count_of_line])
 
     def test_only_the_first_packet_after_a_start_asks_the_database(self):
         """The packets after it need less memory than the query itself."""
-        line_count = self.allocations_of_reading()
+        count_of_line = self.allocations_of_reading()
         first_count, *other_counts = self.allocations_by_packet("", READING_PACKET_LINE, *self.file_registry_options())
-        self.assertEqual(other_counts, [line_count, line_count])
-        self.assertGreater(first_count - line_count, line_count)
+        self.assertEqual(other_counts, [count_of_line, count_of_line])
+        self.assertGreater(first_count - count_of_line, count_of_line)
 
 
 class RememberedSendersTest(AllocationsTest, LiveTest):
@@ -103,18 +103,18 @@ class RememberedSendersTest(AllocationsTest, LiveTest):
 
     ADD_SCRIPT = "".join(f"add {sender:08X} D5-00-01\n" for sender in range(1000))
 
-    def count_in_replay(self, orders, packets, *options):
-        growths, output = self.count_allocations(orders + serial_script_lines(packets) + "status\n", *options)
+    def count_allocations_in_replay(self, orders, packets, *options):
+        growth_count, output = self.count_allocations(orders + serial_script_lines(packets) + "status\n", *options)
         self.assertEqual(output.splitlines(keepends=True)[-1], status_line(96, 4000))
-        return growths, output
+        return growth_count, output
 
-    def count_in_live(self, orders, packets, *options):
+    def count_allocations_in_live(self, orders, packets, *options):
         """The line has bytes 00 for the turns that read the orders."""
         self.desk.write_text(orders)
         self.line.write_bytes(bytes(-(-len(orders) // 256) * 256) + packets)
         turn_count = -(-self.line.stat().st_size // 256)
-        growths, _ = self.count_allocations_of_command(self.run_live, *options, turn_count=turn_count)
-        return growths, self.answers.read_text()
+        growth_count, _ = self.count_allocations_of_command(self.run_live, *options, turn_count=turn_count)
+        return growth_count, self.answers.read_text()
 
     def assert_senders_cached(self, serve, orders, *options):
         """These orders, or an earlier start, add the devices."""
@@ -128,14 +128,14 @@ class RememberedSendersTest(AllocationsTest, LiveTest):
         self.assertEqual(output.count('"type":"reading"'), 4000)
 
     def test_senders_are_remembered_in_memory(self):
-        for serve in (self.count_in_replay, self.count_in_live):
+        for serve in (self.count_allocations_in_replay, self.count_allocations_in_live):
             with self.subTest(serve=serve.__name__):
                 self.assert_senders_cached(serve, self.ADD_SCRIPT)
 
     def test_senders_are_remembered_with_a_registry_in_a_file(self):
         in_file = ["--db", self.work / "thousand.db"]
         self.run_replay(*in_file, script=self.ADD_SCRIPT)
-        for serve in (self.count_in_replay, self.count_in_live):
+        for serve in (self.count_allocations_in_replay, self.count_allocations_in_live):
             with self.subTest(serve=serve.__name__):
                 self.assert_senders_cached(serve, "", *in_file)
 
@@ -165,11 +165,11 @@ class OutputLineAllocationsTest(AllocationsTest):
             ("add 01800ABC A5-08-03\n", longest_packet_line, 276, [128, 256, 512]),
         ):
             with self.subTest(length=length):
-                line_sizes = decoded_text(self.run_replay(script=orders
-                                                          + packet_line).stdout).splitlines(keepends=True)[-1]
+                output = decoded_text(self.run_replay(script=orders + packet_line).stdout)
+                last_line = output.splitlines(keepends=True)[-1]
                 sizes_of_one_packet, sizes_of_two_packets = (self.allocation_sizes(orders + repetitions * packet_line)
                                                              for repetitions in (1, 2))
-                self.assertEqual((len(line_sizes), sorted((sizes_of_two_packets - sizes_of_one_packet).elements())),
+                self.assertEqual((len(last_line), sorted((sizes_of_two_packets - sizes_of_one_packet).elements())),
                                  (length, buffers))
 
     def test_packets_of_a_device_that_was_taught_in_over_the_air(self):
@@ -222,8 +222,10 @@ class TeachInAllocationsTest(AllocationsTest):
                 self.assertEqual(output.count('"result":"deleted"'), 50)
 
     def test_each_deletion_of_a_device_that_is_not_learned_asks_the_database(self):
-        line, counts = self.allocations_of_reading(), self.allocations_by_packet(WINDOW_ORDERS["on"], UTE_DELETION)
-        self.assertEqual([growths for growths in counts if growths <= line], [], f"{counts}, and a line has {line}")
+        count_of_line = self.allocations_of_reading()
+        counts = self.allocations_by_packet(WINDOW_ORDERS["on"], UTE_DELETION)
+        self.assertEqual([count for count in counts if count <= count_of_line], [],
+                         f"{counts}, and a line has {count_of_line}")
 
     def test_a_device_that_was_deleted_over_the_air_is_not_looked_up(self):
         deletions = WINDOW_ORDERS["answer"] + 50 * (UTE_QUERY + UTE_DELETION)
@@ -308,7 +310,7 @@ class InputsWithoutAllocationsTest(AllocationsTest):
         self.assert_no_allocations(1000 * "learn on\nlearn on answer\nlearn as F6-02-01\nlearn off\n", 1)
 
     def test_orders_that_are_refused_before_the_database_is_asked(self):
-        error_by_line = (
+        lines_and_errors = (
             ("later", "syntax"),
             (201 * " ", "too_long"),
             ("add FFFFFFFF D5-00-01", "range"),
@@ -319,9 +321,10 @@ class InputsWithoutAllocationsTest(AllocationsTest):
             ("label FFFFFFFF x", "range"),
             ("label 00000001 " + 33 * "0", "range"),
         )
-        script = 1000 * "".join(f"{line}\n" for line, _ in error_by_line)
+        script = 1000 * "".join(f"{line}\n" for line, _ in lines_and_errors)
         self.assert_equal_allocations("", script)
-        self.assert_run(self.run_replay(script=script), 1000 * "".join(error_line(name) for _, name in error_by_line))
+        self.assert_run(self.run_replay(script=script),
+                        1000 * "".join(error_line(name) for _, name in lines_and_errors))
 
 
 def error_line(name):

@@ -110,7 +110,7 @@ class DayTest(ReportTest):
         """Those of two runs on one database."""
         database = self.work / "hall.db"
         scripts = (script_of_a_day(self.rng, STREAMS), script_of_a_day(self.rng, STREAMS))
-        return [line for text in scripts for line in self.lines_of(text, "--db", database)]
+        return [line for script in scripts for line in self.lines_of(script, "--db", database)]
 
     def test_a_day(self):
         lines = self.lines_of_a_day()
@@ -130,13 +130,13 @@ class DayTest(ReportTest):
         with self.subTest("anonymous"):
             path, anonymous_files = self.report(lines, "--anonymous")
             self.assert_same(path, anonymous_files)
-            labels = report_files["script.txt"].count(b"\nlabel ")
+            label_count = report_files["script.txt"].count(b"\nlabel ")
             self.assertEqual(anonymous_files["expected.lines"].count(b"\n"),
-                             report_files["expected.lines"].count(b"\n") - labels)
+                             report_files["expected.lines"].count(b"\n") - label_count)
             # Zeros are also the data of packets, and the broadcast ID is before a signal strength.
             ids = set(re.findall(rb'"(?:id|dest)":"(?!0{7}|F{7})(.{8})"', b"".join(lines)))
             for name, content in anonymous_files.items():
-                self.assertEqual([reason for reason in ids | {b"LABEL OF", b"FFA1B280"} if reason in content.upper()],
+                self.assertEqual([secret for secret in ids | {b"LABEL OF", b"FFA1B280"} if secret in content.upper()],
                                  [], name)
 
     def test_from_the_middle(self):

@@ -86,8 +86,10 @@ class ThousandDevicesTest(ProgramTest):
     SENDERS = [f"{sender:08X}" for sender in range(1000)]
     SCRIPT = "".join(f"add {sender} D5-00-01\n" for sender in SENDERS) + "list\n"
     ANSWERS = (
-        "".join(f'{{"eep":"D5-00-01","id":"{id}","maker":null,"result":"accepted","type":"teach"}}\n' for id in SENDERS)
-        + "".join(f'{{"eep":"D5-00-01","id":"{id}","label":"","maker":null,"type":"device"}}\n' for id in SENDERS)
+        "".join(f'{{"eep":"D5-00-01","id":"{sender}","maker":null,"result":"accepted","type":"teach"}}\n'
+                for sender in SENDERS)
+        + "".join(f'{{"eep":"D5-00-01","id":"{sender}","label":"","maker":null,"type":"device"}}\n'
+                  for sender in SENDERS)
         + '{"count":1000,"type":"list"}\n'
     )
 
