@@ -292,6 +292,7 @@ class PageTest(unittest.TestCase):
         self.wait_for_text(self.result(device), f"(no label){device}", "learned", "Label …")
         browser.click(self.result(device) + " button")
         self.wait_for_text("#edit-id", device)
+        self.assertEqual(browser.run("return document.activeElement.id"), "edit-label")
         browser.type("#edit-label", label)
         browser.click("#edit-save")
         self.wait_for_text(self.result(device) + " .label", label)

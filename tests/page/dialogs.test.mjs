@@ -2,7 +2,7 @@ import assert from "node:assert/strict";
 import { beforeEach, mock, test } from "node:test";
 
 import { Model } from "../../contrib/cockpit/enogate/model.js";
-import { byId, settle } from "./page.mjs";
+import { byId, focused, settle } from "./page.mjs";
 import { DEVICE, HOSTILE, LIST, PACKET, READING } from "./samples.mjs";
 
 const { EditDialog } = await import("../../contrib/cockpit/enogate/edit.js");
@@ -67,6 +67,14 @@ for (const name of Object.keys(dialogs)) {
         assert.deepEqual(given, [order, order]);
     });
 }
+
+test("the focus is in the field for the label if the dialog is opened to enter one, and not on the profile", () => {
+    byId("edit-save").focus();
+    dialogs.edit.dialog.open(DEVICE.id, DEVICE);
+    assert.equal(focused(), byId("edit-save"));
+    dialogs.edit.dialog.open(DEVICE.id, DEVICE, true);
+    assert.equal(focused(), byId("edit-label"));
+});
 
 /** Opens the dialog of a device that is learned, chooses a profile and enters a label. Returns the profiles. */
 function editing(device, eep, label) {

@@ -156,7 +156,7 @@ test("a result has the label of its device, which leads to its view, and a butto
                      ["Front door01800ABC", "Front door", "#/device/01800ABC", false]);
     assert.deepEqual([button.textContent, button.hidden], ["Label …", false]);
     button.click();
-    assert.deepEqual(page.opened, [["device", "01800ABC", page.model.devices.get("01800ABC")]]);
+    assert.deepEqual(page.opened, [["device", "01800ABC", page.model.devices.get("01800ABC"), true]]);
     // A label that is given meanwhile is shown, whatever it contains.
     for (const label of HOSTILE) {
         page.model.devices.get("01800ABC").label = label;

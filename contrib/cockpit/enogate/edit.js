@@ -25,7 +25,8 @@ export class EditDialog {
         byId("edit-swap").addEventListener("click", () => this.replace());
     }
 
-    open(id, { label, eep, misfit }) {
+    /** Opens the dialog of a device; to enter a label, the focus is in the field for it. */
+    open(id, { label, eep, misfit }, isForLabel = false) {
         Object.assign(this, { id, eep, label });
         setText(byId("edit-id"), id);
         const fitFirst = [...words.PROFILES.keys()].sort((a, b) => b.startsWith(misfit) - a.startsWith(misfit));
@@ -37,6 +38,8 @@ export class EditDialog {
         this.showPart("");
         this.enableButtons(this.page.canOrderNow);
         this.dialog.showModal();
+        if (isForLabel)
+            this.field.input.focus();
     }
 
     /** Shows what has to be known before the device is removed or replaced, or nothing. */

@@ -135,6 +135,9 @@ class ResultRow {
 
     openDialog() {
         const { device, add } = this.page.sections;
-        (this.device ? device : add).dialog.open(this.line.id, this.device ?? this.sender);
+        if (this.device)
+            device.dialog.open(this.line.id, this.device, true);
+        else
+            add.dialog.open(this.line.id, this.sender);
     }
 }
