@@ -650,28 +650,25 @@ class UserActions(PageTest):
 
     def test_a_device_is_learned_by_its_id(self):
         self.learn_by_id("01800B68", "Roof")
-        browser.click("#learn-by-id")
-        browser.type("#learn-new", "01800B68")
-        self.wait_for_text("#learn-result", "Roof is learned already (D5-00-01). It gets the profile that you choose.")
-        self.shoot("learn-by-id")
-        browser.click("#learn-close")
 
-    def test_a_learned_device_keeps_its_profile_unless_another_one_is_chosen(self):
+    def test_an_id_that_is_learned_already_is_refused(self):
         self.learn_device("01800B6C", "D2-01-12", "Kept")
         self.open_tab("add")
         browser.click("#learn-by-id")
-        profile = Select(browser.find("#learn-profile"))
-        profile.select_by_value("F6-02-01")
+        Select(browser.find("#learn-profile")).select_by_value("F6-02-01")
         browser.type("#learn-new", "01800B6C")
-        self.wait_for_text("#learn-result", "Kept is learned already (D2-01-12)")
-        self.assertEqual(self.value("#learn-profile"), "D2-01-12")
+        self.wait_for_text("#learn-result", "01800B6C is already learned: Kept, Electronic switch, 2 channels. Correct")
+        self.assertFalse(browser.find("#learn-go").is_enabled())
+        self.shoot("learn-by-id")
+        browser.type("#learn-new", "01800B6F")
         browser.click("#learn-go")
         self.wait_for_text("#learn-result", "Learned.")
         self.assertIn('{"eep":"D2-01-12","id":"01800B6C","label":"Kept"', ctl("list"))
-        profile.select_by_value("D2-01-11")
+        # The device that the dialog has learned can get another profile.
+        Select(browser.find("#learn-profile")).select_by_value("F6-02-02")
         browser.click("#learn-go")
         self.wait_for_text("#learn-result", "Learned.")
-        self.assertIn('{"eep":"D2-01-11","id":"01800B6C","label":"Kept"', ctl("list"))
+        self.assertIn('{"eep":"F6-02-02","id":"01800B6F"', ctl("list"))
 
     def test_a_profile_that_is_not_known_has_to_be_chosen(self):
         stick.bring("01800B6D", "A5 00000008")

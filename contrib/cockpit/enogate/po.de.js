@@ -14,8 +14,8 @@ cockpit.locale({
     "$0 has this label, too. Orders then need the ID in place of the label.": [
         null, "Auch $0 hat diese Bezeichnung. Befehle brauchen dann die ID statt der Bezeichnung.",
     ],
-    "$0 is learned already ($1). It gets the profile that you choose.": [
-        null, "$0 ist bereits eingelernt ($1). Das Gerät erhält das Profil, das Sie wählen.",
+    "$0 is already learned: $1. Correct the ID, or use Edit.": [
+        null, "$0 ist bereits eingelernt: $1. Berichtigen Sie die ID, oder nutzen Sie „Bearbeiten“.",
     ],
     "$0 is missing, or you may not read it: only administrators and the group enogate may.": [
         null, "$0 fehlt, oder Sie dürfen es nicht lesen: Das dürfen nur Administratoren und die Gruppe enogate.",
