@@ -632,11 +632,17 @@ class UserActions(PageTest):
         time.sleep(1)
         self.assertEqual(browser.find(self.result("01800B64") + " button").rect["y"], top)
         self.assertNotIn("01800B65", browser.text("#teach-rows"))
+        self.assertEqual(browser.text("#teach-new"), "Show the new result")
         ActionChains(browser.driver).click().perform()
         self.wait_for_text("#edit-id", "01800B64")
-        browser.click("#edit-close")
-        self.leave_page()
+        # After Enter the focus is in the list again.
+        browser.type("#edit-label", "Shed\n")
+        self.wait_until_hidden("#edit")
+        ctl("add", "01800B65", "D5-00-01")
+        browser.run("document.querySelector('#teach-list').scrollTo(0, 1000)")
+        browser.click("#teach-new")
         self.wait_for_text("#teach-rows tr:first-child", "01800B65")
+        self.assertEqual(browser.run("return document.querySelector('#teach-list').scrollTop"), 0)
 
     def test_the_label_of_a_packet_opens_its_device(self):
         self.learn_device("01800B66", "D5-00-01", "Garage")

@@ -192,8 +192,27 @@ test("a sender whose telegram did not name its profile can be learned where its 
     assert.equal(button.textContent, "Label …");
 });
 
-test("no result moves while the pointer is on the list", () => {
+test("the list is at its newest result when a window is opened, and when a result comes", () => {
     const { made, page } = card();
+    const list = byId("teach-list");
+    const isAtTop = () => {
+        made.paint();
+        const { scrollTop } = list;
+        list.scrollTop = 100;
+        return scrollTop === 0;
+    };
+    page.model.take(TAUGHT, 0);
+    assert.deepEqual([isAtTop(), isAtTop()], [true, false]);
+    page.model.take({ ...TAUGHT, id: "01800AC1" }, 0);
+    assert.deepEqual([isAtTop(), isAtTop()], [true, false]);
+    byId("teach-open").click();
+    assert.deepEqual([isAtTop(), isAtTop()], [true, false]);
+});
+
+test("no result moves while the pointer is on the list, and a button says how many are missing", () => {
+    const { made, page } = card();
+    const missing = () => byId("teach-new").hidden ? "" : byId("teach-new").textContent;
+    page.painter.paintNow = () => made.paint();
     page.model.take(TAUGHT, 0);
     made.paint();
     const list = byId("teach-rows");
@@ -201,10 +220,16 @@ test("no result moves while the pointer is on the list", () => {
     page.model.take({ ...TAUGHT, id: "01800AC1" }, 0);
     made.paint();
     assert.deepEqual(list.children.map(row => row.children[1].textContent), ["(no label)01800ABC"]);
-    delete list.matches;
+    assert.equal(missing(), "Show the new result");
+    byId("teach-list").scrollTop = 100;
+    page.model.take({ ...TAUGHT, id: "01800AC2" }, 0);
     made.paint();
+    assert.deepEqual([missing(), byId("teach-list").scrollTop], ["Show 2 new results", 100]);
+    delete list.matches;
+    byId("teach-new").click();
     assert.deepEqual(list.children.map(row => row.children[1].textContent),
-                     ["(no label)01800AC1", "(no label)01800ABC"]);
+                     ["(no label)01800AC2", "(no label)01800AC1", "(no label)01800ABC"]);
+    assert.deepEqual([missing(), byId("teach-list").scrollTop], ["", 0]);
 });
 
 test("after a window has closed, the usual kind of device is chosen again", async () => {

@@ -256,6 +256,7 @@ cockpit.locale({
     "Set up and start": [null, "Einrichten und starten"],
     "Set up another gateway …": [null, "Weiteres Gateway einrichten …"],
     "Show": [null, "Anzeigen"],
+    "Show the new result": [null, "Neues Ergebnis zeigen", "$0 neue Ergebnisse zeigen"],
     "Signal": [null, "Empfang"],
     "Silent": [null, "Stumm"],
     "Silent after": [null, "Stumm nach"],
