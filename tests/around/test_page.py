@@ -1084,6 +1084,15 @@ class GatewaySetUp(PageTest):
         browser.click("#setup-go")
         self.wait_for_text("#gateways [aria-selected=true]", "cellar")
         self.assertEqual(other_settings.read_text(), f"SERIAL={self.port}\n")
+        self.wait_until_hidden("#setup")
+        browser.click("#gateway-setup")
+        self.wait(lambda: browser.find("#setup-go").is_enabled(), bool, "the ports")
+        ports = Select(browser.find("#setup-port"))
+        self.assertNotEqual(ports.first_selected_option.get_attribute("value"), str(self.port))
+        ports.select_by_visible_text(f"{self.port.name}, in use by cellar")
+        self.wait_for_text("#setup-result", "The gateway cellar uses this port.")
+        self.assertFalse(browser.find("#setup-go").is_enabled())
+        self.shoot("port-in-use")
 
 
 class PageOnPhone(PageTest):

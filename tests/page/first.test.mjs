@@ -12,7 +12,7 @@ machine.outputOf = ([name, ...words]) => {
     if (words[0] === "paths")
         return `${JSON.stringify(Object.fromEntries(names.map(one => [one, {}])))}\n`;
     if (name === "find")
-        return "/dev/enocean\n";
+        return "/dev/enocean\n/dev/ttyUSB0\n";
     if (name === "systemctl" && words[0] === "enable") {
         const [, unit] = words.at(-1).match(/^enogate@(.*)\.service$/);
         running.push(unit);

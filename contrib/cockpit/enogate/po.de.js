@@ -36,6 +36,7 @@ cockpit.locale({
     "$0 was learned, so the learn window is closed.": [
         null, "$0 wurde eingelernt. Damit ist das Lernfenster geschlossen.",
     ],
+    "$0, in use by $1": [null, "$0, in Gebrauch von $1"],
     "$0, reported $1": [null, "$0, gemeldet $1"],
     "(counted at $0)": [null, "(gezählt um $0)"],
     "(no label)": [null, "(ohne Bezeichnung)"],
@@ -166,15 +167,15 @@ cockpit.locale({
     "No device matches": [null, "Kein Gerät passt"],
     "No device with this ID is learned": [null, "Kein Gerät mit dieser ID ist eingelernt"],
     "No fault is known": [null, "Kein Fehler bekannt"],
+    "No free serial port was found. Plug in the stick, and open this dialog again.": [
+        null,
+        "Keine freie serielle Schnittstelle gefunden. Stecken Sie den Stick ein, und öffnen Sie diesen Dialog noch einmal.",
+    ],
     "No gateway is set up on this machine": [null, "Auf diesem Rechner ist kein Gateway eingerichtet"],
     "No packet line has arrived": [null, "Es ist keine Paketzeile eingetroffen"],
     "No packet lines have arrived. If none arrives when you press a button of a device, set EXPLAIN=--explain for this gateway, and restart it.": [
         null,
         "Es sind keine Paketzeilen eingetroffen. Falls auch keine eintrifft, wenn Sie die Taste eines Geräts drücken, setzen Sie EXPLAIN=--explain für dieses Gateway, und starten Sie es neu.",
-    ],
-    "No serial port was found. Plug in the stick, and open this dialog again.": [
-        null,
-        "Keine serielle Schnittstelle gefunden. Stecken Sie den Stick ein, und öffnen Sie diesen Dialog noch einmal.",
     ],
     "No stick at $0": [null, "Kein Stick an $0"],
     "No unknown device of this kind was heard yet.": [null, "Noch wurde kein unbekanntes Gerät dieser Art empfangen."],
@@ -285,6 +286,7 @@ cockpit.locale({
     "The devices are not known yet.": [null, "Die Geräte sind noch nicht bekannt."],
     "The gateway $0 is restarting": [null, "Das Gateway $0 startet neu"],
     "The gateway $0 is stopped": [null, "Das Gateway $0 ist angehalten"],
+    "The gateway $0 uses this port.": [null, "Das Gateway $0 nutzt diese Schnittstelle."],
     "The gateway cannot store this label: it has characters that are not ASCII, such as ä or ß.": [
         null, "Das Gateway kann diese Bezeichnung nicht speichern: Sie hat Zeichen außerhalb von ASCII, etwa ä oder ß.",
     ],
