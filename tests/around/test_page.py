@@ -759,7 +759,7 @@ class UserActions(PageTest):
         browser.click("#edit-replace")
         browser.type("#edit-new", "01800B54")
         browser.click("#edit-swap")
-        self.wait_for_text("#edit-result", "01800B54")
+        self.wait_for_text("#edit-result", "01800B54 is already learned: Rocker switch, 2 rockers. Choose another device")
         self.assertTrue(browser.find("#edit").is_displayed())
 
     def test_a_device_is_renamed_and_removed(self):

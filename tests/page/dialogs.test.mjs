@@ -586,6 +586,31 @@ test("Enter in the field for the new ID replaces the device, and an error keeps 
     assert.equal(byId("edit-swap").disabled, false);
 });
 
+test("a device that is learned already does not replace another one, unless it may be half replaced", async () => {
+    const { field, button } = replacing();
+    const result = () => byId("edit-result").textContent;
+    const motion = { ...DEVICE, id: "01800AC1", eep: "A5-07-01" };
+    field.value = motion.id;
+    for (const [device, name] of [[{ ...motion, label: "Hall motion" }, "Hall motion"],
+                                  [{ ...motion, label: "" }, "Motion sensor"],
+                                  [{ ...DEVICE, id: motion.id, label: "Gate" }, "Gate"],
+                                  ...HOSTILE.filter(Boolean).map(label => [{ ...motion, label }, label])]) {
+        page.model.take(device, 0);
+        page.model.take(LIST, 0);
+        button.click();
+        assert.deepEqual([given, result()], [[], `01800AC1 is already learned: ${name}. Choose another device, or ` +
+                                                 `remove ${name} first.`]);
+    }
+    for (const label of ["", DEVICE.label]) {
+        page.model.take({ ...DEVICE, id: motion.id, label }, 0);
+        page.model.take(LIST, 0);
+        button.click();
+        assert.equal(given.pop(), "enogatectl hall replace 01800ABC 01800AC1");
+        answer.reject({ message: "enogatectl: why" });
+        await settle();
+    }
+});
+
 test("what is not an ID is not sent, and neither is anything without the right to give orders", () => {
     const { field, button } = replacing();
     for (const text of ["", "01800AC", "01800AC1F", "01800ACG", "; reboot", "--help", "Küche"]) {

@@ -1,7 +1,7 @@
 // The dialog that changes the profile and the label of a device, replaces the device, or removes it.
 
 import { addressOf } from "./address.js";
-import { _ } from "./cockpit.js";
+import { _, format } from "./cockpit.js";
 import { button, byId, element, onEnter, Rows, setText } from "./dom.js";
 import { LabelField } from "./label.js";
 import { acceptedId, canHaveProfile, changeDevice, setProfiles } from "./learn.js";
@@ -68,6 +68,13 @@ export class EditDialog {
         if (id === null || byId("edit-swap").disabled)
             return;
         const { page } = this;
+        const other = page.model.devices.get(id);
+        // A device with this profile and no other label may be one whose replacement was interrupted.
+        if (other && (other.eep !== this.eep || !["", this.label].includes(other.label))) {
+            const text = _("$0 is already learned: $1. Choose another device, or remove $1 first.");
+            setText(byId("edit-result"), format(text, id, other.label || words.kindOfProfile(other.eep) || other.eep));
+            return;
+        }
         this.closeAfter(page.runCommand(replaceCommand(page.gateway, this.id, id)), addressOf("device", id));
     }
 

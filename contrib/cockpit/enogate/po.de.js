@@ -14,6 +14,9 @@ cockpit.locale({
     "$0 has this label, too. Orders then need the ID in place of the label.": [
         null, "Auch $0 hat diese Bezeichnung. Befehle brauchen dann die ID statt der Bezeichnung.",
     ],
+    "$0 is already learned: $1. Choose another device, or remove $1 first.": [
+        null, "$0 ist bereits eingelernt: $1. Wählen Sie ein anderes Gerät, oder entfernen Sie zuerst $1.",
+    ],
     "$0 is already learned: $1. Correct the ID, or use Edit.": [
         null, "$0 ist bereits eingelernt: $1. Berichtigen Sie die ID, oder nutzen Sie „Bearbeiten“.",
     ],
