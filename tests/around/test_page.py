@@ -807,7 +807,7 @@ class UserActions(PageTest):
         browser.click("#teach-close")
         self.wait_until_hidden("#window")
         self.wait_until_hidden("#teach-left")
-        self.assertTrue(browser.find("#teach-on").is_selected())
+        self.assertTrue(browser.find("#teach-answer").is_selected())
         self.assertFalse(browser.find("#problem").is_displayed(), browser.text("#problem"))
 
     def test_a_learn_window_for_one_device_says_that_it_was_learned(self):

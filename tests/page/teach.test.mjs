@@ -232,29 +232,19 @@ test("no result moves while the pointer is on the list, and a button says how ma
     assert.deepEqual([missing(), byId("teach-list").scrollTop], ["", 0]);
 });
 
-test("after a window has closed, the usual kind of device is chosen again", async () => {
+test("after a window has closed, the same kind of device is chosen for the next one", async () => {
     const { made } = card();
-    const chosen = () => {
-        made.paint();
-        return ["on", "answer", "as"].filter(name => byId(`teach-${name}`).checked).join();
-    };
     byId("teach-on").checked = false;
     byId("teach-profile").enterValue("F6-03-01");
-    byId("teach-open").click();
-    assert.equal(chosen(), "as");
-    made.takeLine(OPEN, 1000);
-    assert.equal(chosen(), "as");
-    windows()[0].resolve();
-    await settle();
-    assert.equal(chosen(), "on");
-    assert.deepEqual(made.openingOrder(), ["learn", "on"]);
-    // The window of a gateway that is left is closed, too.
-    [byId("teach-on").checked, byId("teach-answer").checked] = [false, true];
-    byId("teach-open").click();
-    made.takeLine(OPEN, 1000);
-    assert.equal(chosen(), "answer");
-    made.clear();
-    assert.equal(chosen(), "on");
+    for (const end of [() => windows().at(-1).resolve(), () => made.clear()]) {
+        byId("teach-open").click();
+        made.takeLine(OPEN, 1000);
+        end();
+        await settle();
+        made.paint();
+        assert.deepEqual(["on", "answer", "as"].filter(name => byId(`teach-${name}`).checked), ["as"]);
+        assert.deepEqual(made.openingOrder(), ["learn", "as", "F6-03-01"]);
+    }
 });
 
 test("a window that cannot be opened leaves the choice", async () => {

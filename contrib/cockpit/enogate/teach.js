@@ -68,10 +68,8 @@ export class LearnWindowCard {
         this.page.refresh();
     }
 
-    /** There is no window of the page. After one that was open, the usual kind of device is chosen again. */
+    /** There is no window of the page. */
     resetWindow() {
-        if (this.until)
-            ["on", "answer", "as"].forEach(name => { byId(`teach-${name}`).checked = name === "on"; });
         Object.assign(this, { process: null, until: null });
     }
 
