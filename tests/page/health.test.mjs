@@ -57,12 +57,21 @@ test("devices are grouped by what is known of them", () => {
     const ids = Object.fromEntries(Object.entries(groups).map(([name, found]) =>
         [name, found.map(([id]) => id.slice(-2)).join()]));
     assert.deepEqual(ids, { all: "01,02,03,04", silent: "02", heard: "01,04", weak: "02,04", actuators: "04",
-                            unanswered: "04", misfit: "" });
+                            unanswered: "04", misfit: "", unheard: "" });
     const sentence = minutes => health.heardSentence(health.devicesByState(model, sent, NOW, minutes), model, minutes);
     assert.equal(sentence(10), "2 of 4 devices were heard in the last 10 min; for 1 this is not known yet.");
     assert.equal(sentence(120), "3 of 4 devices were heard in the last 2 h; for 1 this is not known yet.");
     assert.equal(sentence(Infinity), "3 of 4 devices were heard; for 1 this is not known yet.");
+    for (const id of ["05", "06"])
+        model.device(`01800A${id}`, "D5-00-01");
+    assert.equal(sentence(120), "3 of 6 devices were heard in the last 2 h; for 1 this is not known yet. " +
+                 "2 devices were never heard.");
+    // One is silent if the page was open for this time.
+    assert.equal(sentence(0.5), "2 of 6 devices were heard in the last 0.5 min.");
     model.devices.delete("01800A03");
+    model.devices.delete("01800A06");
+    assert.equal(sentence(Infinity), "3 of 4 devices were heard. 1 device was never heard.");
+    model.devices.delete("01800A05");
     assert.equal(sentence(24 * 60), "All 3 devices were heard in the last 24 h.");
 });
 

@@ -170,12 +170,13 @@ test("the age of the last telegram fits the packets below it, also if they had n
     const age = part => {
         page.part = part;
         section.paint();
-        return [text("device-age"), byId("device-log").hidden];
+        return [text("device-age"), byId("device-log").hidden, byId("device-unheard").hidden];
     };
-    assert.deepEqual(age("01800A03"), ["last telegram: earlier", false]);
-    assert.deepEqual(age("01800A04"), ["last telegram: none known", true]);
+    assert.deepEqual(age("01800A03"), ["last telegram: earlier", false, true]);
+    // Nothing was heard of it: the view says what to do.
+    assert.deepEqual(age("01800A04"), ["last telegram: none known", true, false]);
     page.model.take({ ...PACKET, id: "01800A03", why: "wrong_kind" }, Date.now());
-    assert.deepEqual(age("01800A03"), ["last telegram: 0 s ago", false]);
+    assert.deepEqual(age("01800A03"), ["last telegram: 0 s ago", false, true]);
 });
 
 test("a device that is not learned is reported once the devices are known", () => {

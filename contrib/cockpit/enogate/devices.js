@@ -5,7 +5,7 @@ import { _, format } from "./cockpit.js";
 import { Controls } from "./controls.js";
 import { byId, element, Rows, rowWithCells, setText, showText } from "./dom.js";
 import { withHeadings } from "./grouping.js";
-import { lastHeardTime, MAX_DEVICES } from "./model.js";
+import { lastHeardTime, MAX_DEVICES, wasHeard } from "./model.js";
 import { readingChips, setSignal } from "./readings.js";
 import { compareTexts, Sorting } from "./sorting.js";
 import * as words from "./words.js";
@@ -27,10 +27,8 @@ export const matchingDevices = (devices, text) =>
     [...devices].filter(([id, { label, eep }]) => words.hasText(text, id, label, words.profileWithKind(eep)));
 
 /** How long ago a device was heard. */
-export function lastHeardText(device, now) {
-    const time = lastHeardTime(device);
-    return time !== null || device.readings.size || device.hasSent ? words.ageText(time, now) : _("none known");
-}
+export const lastHeardText = (device, now) =>
+    wasHeard(device) ? words.ageText(lastHeardTime(device), now) : _("none known");
 
 export class DevicesSection {
     constructor(page) {

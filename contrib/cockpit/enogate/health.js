@@ -3,7 +3,7 @@
 import { orderStateOf } from "./answers.js";
 import { addressOf } from "./address.js";
 import { _, format, N_, ngettext } from "./cockpit.js";
-import { lastHeardTime } from "./model.js";
+import { lastHeardTime, wasHeard } from "./model.js";
 import { baseFault, gatewayFault } from "./places.js";
 import * as words from "./words.js";
 
@@ -25,6 +25,7 @@ export function devicesByState({ devices, opened }, sent, now, minutes) {
     const isSilent = new Set(silent.map(([id]) => id));
     return {
         all, silent,
+        unheard: all.filter(([id, device]) => !wasHeard(device) && !isSilent.has(id)),
         heard: all.filter(([id, device]) => lastHeardTime(device) !== null && !isSilent.has(id)),
         weak: all.filter(([, { dbm }]) => signalBars(dbm) === 1),
         misfit: all.filter(([, { misfit }]) => misfit),
@@ -34,10 +35,10 @@ export function devicesByState({ devices, opened }, sent, now, minutes) {
 }
 
 /** How many devices were heard, in a sentence. */
-export function heardSentence({ all: { length: count }, heard, silent }, { areDevicesKnown }, minutes) {
+export function heardSentence({ all: { length: count }, heard, silent, unheard }, { areDevicesKnown }, minutes) {
     if (!count)
         return areDevicesKnown ? _("No device is learned yet.") : _("The devices are not known yet.");
-    const unknown = count - heard.length - silent.length;
+    const unknown = count - heard.length - silent.length - unheard.length;
     const time = minutes % 60 ? `${minutes} min` : `${minutes / 60} h`;
     const [ofAll, ofSome, withUnknown] = Number.isFinite(minutes)
         ? [ngettext("The device was heard in the last $2.", "All $1 devices were heard in the last $2.", count),
@@ -46,7 +47,9 @@ export function heardSentence({ all: { length: count }, heard, silent }, { areDe
         : [ngettext("The device was heard.", "All $1 devices were heard.", count), _("$0 of $1 devices were heard."),
            _("$0 of $1 devices were heard; for $3 this is not known yet.")];
     const message = heard.length === count ? ofAll : unknown ? withUnknown : ofSome;
-    return format(message, heard.length, count, time, unknown);
+    const never = ngettext("$0 device was never heard.", "$0 devices were never heard.", unheard.length);
+    return [format(message, heard.length, count, time, unknown), unheard.length && format(never, unheard.length)]
+            .filter(Boolean).join(" ");
 }
 
 const nameOf = ([id, { label }]) => label || id;

@@ -8,6 +8,7 @@ cockpit.locale({
     ],
     "$0 device has a weak signal": [null, "$0 Gerät hat schwachen Empfang", "$0 Geräte haben schwachen Empfang"],
     "$0 device is silent": [null, "$0 Gerät ist stumm", "$0 Geräte sind stumm"],
+    "$0 device was never heard.": [null, "$0 Gerät wurde noch nie empfangen.", "$0 Geräte wurden noch nie empfangen."],
     "$0 did not answer an order": [null, "$0 hat auf einen Befehl nicht geantwortet"],
     "$0 has a weak signal: $1": [null, "$0 hat schwachen Empfang: $1"],
     "$0 has not been heard": [null, "$0 wurde noch nicht empfangen"],
@@ -128,6 +129,12 @@ cockpit.locale({
     "ID": [null, "ID"],
     "ID of the device": [null, "ID des Geräts"],
     "ID of the new device": [null, "ID des neuen Geräts"],
+    "If another ID moves to the top in Add device, correct the ID.": [
+        null, "Steht danach eine andere ID in „Gerät hinzufügen“ oben, berichtigen Sie die ID.",
+    ],
+    "If nothing comes, it is too far away or has no power.": [
+        null, "Kommt nichts, ist es zu weit entfernt oder ohne Strom.",
+    ],
     "Ignored": [null, "Ignoriert"],
     "Illuminance": [null, "Helligkeit"],
     "It has a learn button.": [null, "Er hat eine Lerntaste."],
@@ -182,6 +189,9 @@ cockpit.locale({
     ],
     "No stick at $0": [null, "Kein Stick an $0"],
     "No unknown device of this kind was heard yet.": [null, "Noch wurde kein unbekanntes Gerät dieser Art empfangen."],
+    "Nothing was heard of this device. Press its button.": [
+        null, "Von diesem Gerät wurde nichts empfangen. Drücken Sie seine Taste.",
+    ],
     "Nothing was heard yet": [null, "Bisher wurde nichts empfangen"],
     "Occupancy button": [null, "Anwesenheitstaste"],
     "Off": [null, "Aus"],
