@@ -903,7 +903,7 @@ class UserActions(PageTest):
         self.shoot("answers")
         browser.click(self.row("01800B32") + " .answer a")
         self.wait_for_text("#device-id", "01800B32")
-        self.wait_for_text("#device-act", "no answer", "Has it learned this gateway?")
+        self.wait_for_text("#device-act", "no answer", "Does it have power? Press again.")
         self.shoot("no-answer")
         browser.click("#device-act a")
         self.wait(lambda: browser.find("#teach-open").is_displayed(), bool, "the learn window")

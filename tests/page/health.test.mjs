@@ -194,7 +194,7 @@ test("a device that did not answer is listed by its label, whatever it contains"
         const [found] = attention(model, { sent });
         assert.deepEqual([found.level, found.text, found.target],
                          ["warn", `${label} did not answer an order`, "#/device/01800A01"]);
-        // It may never have been taught in.
-        assert.match(found.detail, /^Has it learned this gateway\? If not, open the learn window, /);
+        // It may have no power, or may never have been taught in.
+        assert.match(found.detail, /^Does it have power\? .* never obeyed, it has to learn this gateway: open the learn /);
     }
 });

@@ -1,6 +1,6 @@
 // What is all right, and what needs attention. Nothing here touches the page.
 
-import { orderStateOf } from "./answers.js";
+import { orderStateOf, SILENT_HINT } from "./answers.js";
 import { addressOf } from "./address.js";
 import { _, format, N_, ngettext } from "./cockpit.js";
 import { lastHeardTime, wasHeard } from "./model.js";
@@ -107,8 +107,7 @@ export function findProblems({ groups, now, ...facts }) {
         : format(_("$0 was last heard $1"), name, words.ageText(lastHeardTime(device), now));
     const found = gatewayProblems(facts);
     const isBroken = found.some(({ level }) => level === "bad");
-    const untaught = _("Has it learned this gateway? If not, open the learn window, and press its learn button.");
-    found.push(...deviceProblems(groups.unanswered, "actuators", untaught,
+    found.push(...deviceProblems(groups.unanswered, "actuators", SILENT_HINT,
                                  name => format(_("$0 did not answer an order"), name), count =>
         ngettext("$0 device did not answer an order", "$0 devices did not answer an order", count)),
                ...deviceProblems(groups.misfit, "misfit", _("Choose another profile: Show, and then Edit …."),

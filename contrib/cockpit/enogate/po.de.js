@@ -97,6 +97,10 @@ cockpit.locale({
     "Dim": [null, "Dimmen"],
     "Dim to": [null, "Dimmen auf"],
     "Dimmer, 1 channel": [null, "Dimmer, 1 Kanal"],
+    "Does it have power? Press again. If it has never obeyed, it has to learn this gateway: open the learn window in Add device, and press the learn button of the actuator.": [
+        null,
+        "Hat es Strom? Drücken Sie noch einmal. Hat es noch nie einen Befehl befolgt, muss es dieses Gateway einlernen: Öffnen Sie das Lernfenster in „Gerät hinzufügen“, und drücken Sie die Lerntaste des Aktors.",
+    ],
     "Down": [null, "Ab"],
     "Edit …": [null, "Bearbeiten …"],
     "Electricity meter": [null, "Stromzähler"],
@@ -120,9 +124,6 @@ cockpit.locale({
     "Group by the first word of the label": [null, "Nach erstem Wort gruppieren"],
     "Groups": [null, "Gruppen"],
     "Groups of actuators": [null, "Gruppen von Aktoren"],
-    "Has it learned this gateway? If not, open the learn window, and press its learn button.": [
-        null, "Hat es dieses Gateway eingelernt? Falls nicht, öffnen Sie das Lernfenster, und drücken Sie seine Lerntaste.",
-    ],
     "Heard": [null, "Zuletzt"],
     "Heard, but not learned": [null, "Empfangen, aber nicht eingelernt"],
     "Humidity": [null, "Feuchte"],
@@ -130,7 +131,7 @@ cockpit.locale({
     "ID of the device": [null, "ID des Geräts"],
     "ID of the new device": [null, "ID des neuen Geräts"],
     "If another ID moves to the top in Add device, correct the ID.": [
-        null, "Steht danach eine andere ID in „Gerät hinzufügen“ oben, berichtigen Sie die ID.",
+        null, "Kommt in „Gerät hinzufügen“ eine andere ID nach oben, berichtigen Sie die ID.",
     ],
     "If nothing comes, it is too far away or has no power.": [
         null, "Kommt nichts, ist es zu weit entfernt oder ohne Strom.",
@@ -327,9 +328,6 @@ cockpit.locale({
     ],
     "The new device gets the profile and the label, and this one is deleted.": [
         null, "Das neue Gerät erhält Profil und Bezeichnung, und dieses wird gelöscht.",
-    ],
-    "The order was sent, but the device has reported nothing. Has it learned this gateway?": [
-        null, "Der Befehl wurde gesendet, aber das Gerät hat nichts gemeldet. Hat es dieses Gateway eingelernt?",
     ],
     "There is a gateway with this name already: choose another name.": [
         null, "Es gibt schon ein Gateway mit diesem Namen: Wählen Sie einen anderen.",
