@@ -504,6 +504,7 @@ class ShownContents(PageTest):
                                  [] if reason else ["01800AE1"])
 
     def test_packets_are_shown_filtered_and_paused(self):
+        self.learn_device("01800A08", "D5-00-01")
         self.open_tab("packets")
         stick.bring("01800A04", PRESS, RELEASE)
         stick.bring("01800A05", CLOSED)
@@ -511,6 +512,11 @@ class ShownContents(PageTest):
         self.shoot("packets")
         browser.type("#search", "a04")
         self.wait_for_no_text("#packets-rows", "01800A05")
+        self.open_tab("devices")
+        self.wait_for_text("#hidden", " hidden by the search.", "Clear")
+        self.shoot("hidden")
+        self.open_tab("packets")
+        self.assertFalse(browser.find("#hidden").is_displayed())
         browser.click("#packets-pause")
         stick.bring("01800A04", "F6 70 30")
         self.wait_for_packet('"payload":"70"')

@@ -457,3 +457,26 @@ test("only an administrator writes a backup, and not a member of the group", asy
     await settle();
     assert.equal(started("enogatectl", "yard", "backup").length, 1);
 });
+
+test("a list that is empty because of the search says so, in each section, and the search can be cleared", async () => {
+    const sensor = { ...READING, id: "01800AA1" };
+    byId("gateways").children[1].click();
+    await settle();
+    await bring(PACKET, sensor, { ...sensor, id: "01800AA2" });
+    const shown = () => byId("hidden").hidden ? "" : byId("hidden-text").textContent;
+    const search = byId("search");
+    for (const [address, count] of [["#/devices", "2 entries are"], ["#/devices/weak", ""], ["#/add", "1 entry is"],
+                                    ["#/packets", "1 entry is"], ["#/overview", ""], ["#/device/01800AA1", ""]]) {
+        view.open("#/devices");
+        search.enterValue("no such device");
+        view.open(address);
+        assert.equal(shown(), count && `${count} hidden by the search.`, address);
+        byId("hidden-clear").click();
+        assert.deepEqual([search.value, shown(), location.hash], ["", "", address]);
+    }
+    view.open("#/devices");
+    assert.equal(byId("devices-rows").children.length, 2);
+    search.enterValue("aa1");
+    assert.deepEqual([byId("devices-rows").children.length, shown()], [1, ""]);
+    search.enterValue("");
+});

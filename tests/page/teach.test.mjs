@@ -186,7 +186,7 @@ test("a sender whose telegram did not name its profile can be learned where its 
     const { button } = newest(made);
     assert.deepEqual([button.textContent, button.hidden], ["Learn …", false]);
     button.click();
-    assert.deepEqual(page.opened, [["add", sender.id, page.model.unknown.get(sender.id)]]);
+    assert.deepEqual(page.opened, [["add", sender.id, page.model.unknown.get(sender.id), true]]);
     page.model.take({ ...TAUGHT, id: sender.id, eep: "A5-02-05" }, 0);
     made.paint();
     assert.equal(button.textContent, "Label …");

@@ -46,6 +46,7 @@ export class DevicesSection {
         this.sorting = new Sorting(COLUMNS, byId("devices-sort"), headings, () => page.painter.paintNow());
     }
 
+    /** Shows the devices. Returns how many the search hides, if it hides all of them. */
     paint() {
         const { model, groups, part, query } = this.page;
         for (const link of this.states) {
@@ -62,6 +63,7 @@ export class DevicesSection {
         const none = model.areDevicesKnown ? _("No device is learned yet") : _("The devices are not known yet");
         setText(byId("devices-none-title"), model.devices.size ? _("No device matches") : none);
         showText(byId("devices-note"), this.note(model));
+        return found.length ? 0 : groups[part || "all"].length;
     }
 
     note(model) {

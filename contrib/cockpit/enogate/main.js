@@ -3,7 +3,7 @@
 import { AddSection } from "./add.js";
 import { addressOf, viewOf } from "./address.js";
 import { startedOrder } from "./answers.js";
-import { _, cockpit, format } from "./cockpit.js";
+import { _, cockpit, format, ngettext } from "./cockpit.js";
 import * as commands from "./commands.js";
 import { DeviceSection } from "./device.js";
 import { DevicesSection } from "./devices.js";
@@ -86,6 +86,7 @@ class Page {
         byId("problem-close").addEventListener("click", () => this.showError(""));
         byId("trouble-help").addEventListener("click", ({ target }) => this.fixProblem(target.dataset.action, target));
         byId("search").addEventListener("input", () => this.search(byId("search").value));
+        byId("hidden-clear").addEventListener("click", () => this.search(byId("search").value = ""));
         byId("devices-quiet").value = String(Number.isFinite(this.minutes) ? this.minutes : 0);
         byId("devices-quiet").addEventListener("input", () => this.setMinutes(byId("devices-quiet").value));
         addEventListener("hashchange", () => this.openAddress(location.hash));
@@ -349,7 +350,10 @@ class Page {
         this.paintHead();
         setText(byId("device-count"), String(model.devices.size || ""));
         setText(byId("unknown-count"), `${model.unknown.size || ""}${model.unknownLeftOut ? "+" : ""}`);
-        this.sections[this.section].paint();
+        const count = this.sections[this.section].paint() ?? 0;
+        const hidden = ngettext("$0 entry is hidden by the search.", "$0 entries are hidden by the search.", count);
+        byId("hidden").hidden = !count;
+        setText(byId("hidden-text"), format(hidden, count));
         [this.sections.add.dialog, this.sections.device.dialog, this.setup].forEach(dialog => dialog.paint());
     }
 

@@ -35,12 +35,14 @@ export class PacketsSection {
             this.togglePause();
     }
 
+    /** Shows the packets. Returns how many the search hides, if it hides all of them. */
     paint() {
         const { model, query } = this.page;
         const packets = this.paused || model.packets.slice(-MAX_PACKETS);
         const found = matchingPackets(packets, model.devices, query);
         this.rows.fill(found.slice(-MAX_SHOWN_ROWS).map(packet => [packet.number, packet]).reverse());
         setText(byId("packets-note"), this.note(model, found.length));
+        return found.length ? 0 : packets.length;
     }
 
     note({ hasPackets }, count) {

@@ -10,6 +10,7 @@ cockpit.locale({
     "$0 device is silent": [null, "$0 Gerät ist stumm", "$0 Geräte sind stumm"],
     "$0 device was never heard.": [null, "$0 Gerät wurde noch nie empfangen.", "$0 Geräte wurden noch nie empfangen."],
     "$0 did not answer an order": [null, "$0 hat auf einen Befehl nicht geantwortet"],
+    "$0 entry is hidden by the search.": [null, "Die Suche verbirgt $0 Eintrag.", "Die Suche verbirgt $0 Einträge."],
     "$0 has a weak signal: $1": [null, "$0 hat schwachen Empfang: $1"],
     "$0 has not been heard": [null, "$0 wurde noch nicht empfangen"],
     "$0 has this label, too. Orders then need the ID in place of the label.": [
@@ -40,7 +41,6 @@ cockpit.locale({
     "$0 was learned, so the learn window is closed.": [
         null, "$0 wurde eingelernt. Damit ist das Lernfenster geschlossen.",
     ],
-    "$0, in use by $1": [null, "$0, in Gebrauch von $1"],
     "$0, reported $1": [null, "$0, gemeldet $1"],
     "(counted at $0)": [null, "(gezählt um $0)"],
     "(no label)": [null, "(ohne Bezeichnung)"],
@@ -84,6 +84,7 @@ cockpit.locale({
     "Choose the profile: the data sheet of the device names it.": [
         null, "Wählen Sie das Profil: Das Datenblatt des Geräts nennt es.",
     ],
+    "Clear": [null, "Löschen"],
     "Close": [null, "Schließen"],
     "Contact": [null, "Kontakt"],
     "Continue": [null, "Fortsetzen"],
@@ -404,6 +405,7 @@ cockpit.locale({
     ],
     "failure": [null, "Fehler"],
     "heard": [null, "empfangen"],
+    "in use by $0": [null, "in Gebrauch von $0"],
     "its length does not fit its profile": [null, "seine Länge passt nicht zu seinem Profil"],
     "last telegram: $0": [null, "letztes Telegramm: $0"],
     "learned": [null, "eingelernt"],

@@ -50,15 +50,12 @@ export class SetupDialog {
             const ports = await commands.serialPorts();
             this.users = await usersOfPorts(ports, this.page.gateways);
             const free = ports.find(path => !this.users.get(path)) ?? "";
-            const options = ports.map(path => [path, this.textOf(path)]);
+            const note = user => user ? `, ${format(_("in use by $0"), user)}` : "";
+            const options = ports.map(path =>
+                [path, path.replace("/dev/serial/by-id/", "") + note(this.users.get(path))]);
             setOptions(this.port, free ? options : [["", "–"], ...options], free);
             return free ? "" : NO_PORT;
         });
-    }
-
-    textOf(path) {
-        const [name, user] = [path.replace("/dev/serial/by-id/", ""), this.users.get(path)];
-        return user ? format(_("$0, in use by $1"), name, user) : name;
     }
 
     /** Does something, and shows what it returns, or why it failed. Meanwhile the buttons cannot be used. */

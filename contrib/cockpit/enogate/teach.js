@@ -108,11 +108,11 @@ export class LearnWindowCard {
         setText(byId("teach-mode"), format(text, words.profileWithKind(profile)));
         const done = _("$0 was learned, so the learn window is closed.");
         showText(byId("teach-learned"), this.learned ? format(done, this.learned) : "");
-        this.paintResults(model.taught);
+        this.paintResults(model);
     }
 
     /** Shows the results, and scrolls to a new one. While the list is in use, a button says how many are missing. */
-    paintResults(taught) {
+    paintResults({ taught }) {
         const [[newest] = []] = this.rows.shown;
         this.rows.fill(taught.map(item => [item.number, item]).reverse());
         const [[first] = []] = this.rows.shown;
@@ -148,9 +148,7 @@ class ResultRow {
 
     openDialog() {
         const { device, add } = this.page.sections;
-        if (this.device)
-            device.dialog.open(this.line.id, this.device, true);
-        else
-            add.dialog.open(this.line.id, this.sender);
+        // Only the dialog of a device has a choice of what is to be entered: here it is the label.
+        (this.device ? device : add).dialog.open(this.line.id, this.device ?? this.sender, true);
     }
 }
