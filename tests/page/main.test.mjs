@@ -181,6 +181,7 @@ test("whoever may neither give orders nor read the lines is not told to look", a
     assert.match(byId("read-only").textContent, /^You can look, but not change anything\./);
     started("enogatectl", "hall", "lines").at(-1).reject({ message: "enogatectl: why" });
     await pass(2);
+    assert.deepEqual([byId("feed").textContent, byId("feed").dataset.state], ["lost", "lost"]);
     assert.match(byId("read-only").textContent, /^You can see nothing, since the lines cannot be read\. Turn on /);
     assert.equal(byId("read-only").hidden, false);
     await pass(5);
@@ -239,14 +240,18 @@ test("a service that is stopped can be started, and gets no orders", async () =>
     assert.match(byId("attention").textContent, /The gateway hall is stopped/);
     assert.equal(byId("gateway-refresh").disabled, true);
     view.open("#/devices");
+    assert.deepEqual([byId("feed").textContent, byId("feed").dataset.state], ["stopped", "stopped"]);
     assert.deepEqual([byId("trouble").hidden, byId("trouble-help").textContent], [false, "Start"]);
     assert.equal(byId("trouble-help").disabled, false);
     byId("trouble-help").click();
     await settle();
     assert.deepEqual(started("systemctl", "start").at(-1).words, ["systemctl", "start", "enogate@hall.service"]);
+    machine.outputOf = words => words[1] === "-c" ? Object.assign(Error("no"), { exit_status: 1 }) : outputOf(words);
+    await pass(3);
+    assert.deepEqual([byId("feed").textContent, byId("feed").dataset.state], ["no stick", "stopped"]);
     machine.outputOf = outputOf;
     await pass(3);
-    assert.equal(byId("trouble").hidden, true);
+    assert.deepEqual([byId("trouble").hidden, byId("feed").textContent], [true, "live"]);
     byId("gateway-journal").click();
     assert.deepEqual(jumps, ["/system/services#/enogate%40hall.service"]);
 });

@@ -28,7 +28,7 @@ const START_TIME = 60000;
 const NO_RIGHTS = _("You can look, but not change anything. Turn on administrative access in Cockpit, or ask an " +
     "administrator to add you to the group enogate.");
 const NO_LINES = _("You can see nothing, since the lines cannot be read. Turn on administrative access in Cockpit.");
-const FEED_TEXTS = { reading: _("reading"), live: _("live"), lost: _("lost"), waiting: _("waiting") };
+const FEED_TEXTS = { reading: _("reading"), live: _("live"), lost: _("lost") };
 // The browser stores after how many minutes a device is silent, and the gateway, also that of each window.
 const [STORED_MINUTES, STORED_GATEWAY] = ["enogate-quiet-minutes", "enogate-gateway"];
 const DEFAULT_SILENT_MINUTES = 24 * 60;
@@ -374,9 +374,8 @@ class Page {
         byId("trouble-help").dataset.action = wrong?.action ?? "";
         setText(byId("trouble-help"), wrong ? _(wrong.action) : "");
         byId("trouble-help").disabled = !wrong || !this.mayUseFix(wrong.action);
-        const state = feedState.state === "live" && stopped ? "waiting" : feedState.state;
-        showText(byId("feed"), this.gateway === null ? "" : FEED_TEXTS[state]);
-        byId("feed").dataset.state = state;
+        showText(byId("feed"), this.gateway === null ? "" : stopped?.word ?? FEED_TEXTS[feedState.state]);
+        byId("feed").dataset.state = stopped ? "stopped" : feedState.state;
     }
 }
 
