@@ -13,12 +13,12 @@ import * as words from "./words.js";
 // The browser stores whether the devices are grouped.
 const STORED_GROUPING = "enogate-grouping";
 
-/** How two devices are sorted by a column. Devices without a value come last. */
+/** How two devices are sorted by a column: the weakest signal comes first. Devices without a value come last. */
 export const COLUMNS = new Map([
     ["label", ([, a], [, b]) => compareTexts(a.label || "~", b.label || "~")],
     ["id", ([a], [b]) => compareTexts(a, b)],
     ["profile", ([, a], [, b]) => compareTexts(a.eep, b.eep)],
-    ["signal", ([, a], [, b]) => (b.dbm ?? -Infinity) - (a.dbm ?? -Infinity) || 0],
+    ["signal", ([, a], [, b]) => (a.dbm ?? Infinity) - (b.dbm ?? Infinity) || 0],
     ["received", ([, a], [, b]) => (lastHeardTime(b) ?? 0) - (lastHeardTime(a) ?? 0)],
 ]);
 
