@@ -370,7 +370,7 @@ class ShownContents(PageTest):
         self.wait(lambda: self.ids("devices"), lambda ids: ids == ["01800A13", "01800A11", "01800A12"])
         Select(browser.find("#devices-sort")).select_by_value("id")
         self.wait(lambda: self.ids("devices"), lambda ids: ids == ["01800A11", "01800A12", "01800A13"])
-        browser.type("#devices-quiet", "0.05")
+        browser.type("#devices-quiet", "0.001")
         self.wait_for_quiet(self.row("01800A11"), True)
         stick.bring("01800A11", CLOSED)
         self.wait_for_quiet(self.row("01800A11"), False)
@@ -378,7 +378,7 @@ class ShownContents(PageTest):
         browser.click("#devices-states [data-state=silent]")
         self.wait(lambda: self.ids("devices"), lambda ids: ids == ["01800A12", "01800A13"], "the silent devices")
         browser.click("#devices-states [data-state=all]")
-        browser.type("#devices-quiet", "1440")
+        browser.type("#devices-quiet", "24")
         self.wait_for_quiet(self.row("01800A12"), False)
 
     def wait_for_quiet(self, selector: str, is_quiet: bool) -> None:

@@ -74,7 +74,7 @@ function isForPeople(one) {
 }
 
 test("texts of index.html are translated, but for units", () => {
-    assert.deepEqual(untranslatedHtml, ["min", "s"]);
+    assert.deepEqual(untranslatedHtml, ["h", "s"]);
 });
 
 test("a translation that looks like a placeholder, or text from outside, changes nothing", () => {

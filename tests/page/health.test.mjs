@@ -61,6 +61,7 @@ test("devices are grouped by what is known of them", () => {
     const sentence = minutes => health.heardSentence(health.devicesByState(model, sent, NOW, minutes), model, minutes);
     assert.equal(sentence(10), "2 of 4 devices were heard in the last 10 min; for 1 this is not known yet.");
     assert.equal(sentence(120), "3 of 4 devices were heard in the last 2 h; for 1 this is not known yet.");
+    assert.match(sentence(60 * 1.1), / 1\.1 h; /);
     assert.equal(sentence(Infinity), "3 of 4 devices were heard; for 1 this is not known yet.");
     for (const id of ["05", "06"])
         model.device(`01800A${id}`, "D5-00-01");

@@ -463,6 +463,21 @@ test("only an administrator writes a backup, and not a member of the group", asy
     assert.equal(started("enogatectl", "yard", "backup").length, 1);
 });
 
+test("after how many hours a device is silent can be changed, and the browser stores it", async () => {
+    view.open("#/devices");
+    byId("gateways").children[1].click();
+    await settle();
+    await bring(READING);
+    const hours = byId("devices-quiet");
+    const isQuiet = () => byId("devices-rows").children[0].classList.contains("quiet");
+    assert.equal(hours.value, "24");
+    for (const [text, seconds, wanted] of [["0.01", 35, false], ["0.01", 2, true], ["0", 0, false], ["24", 0, false]]) {
+        hours.enterValue(text);
+        await pass(seconds);
+        assert.deepEqual([isQuiet(), localStorage.getItem("enogate-silent-hours")], [wanted, text]);
+    }
+});
+
 test("a list that is empty because of the search says so, in each section, and the search can be cleared", async () => {
     const sensor = { ...READING, id: "01800AA1" };
     byId("gateways").children[1].click();

@@ -53,9 +53,16 @@ test("the list has the devices of the state that the address names, and says how
                 .map(({ dataset }) => dataset.state), [state]);
         assert.equal(byId("devices-none").hidden, ids.length > 0);
         assert.equal(byId("devices-table").hidden, ids.length === 0);
+        if (part === "silent")
+            assert.equal(text("devices-none-title"), "No device is silent");
     }
     assert.deepEqual(states.map(({ textContent }) => textContent), ["2", "0", "1", "1"]);
-    assert.deepEqual([text("devices-none-title"), byId("devices-none-add").hidden], ["No device matches", true]);
+    // There are such devices, but none with this text.
+    for (const part of ["weak", "silent"]) {
+        Object.assign(page, { part, query: "zz", groups: { ...page.groups, silent: page.groups.all } });
+        section.paint();
+        assert.deepEqual([text("devices-none-title"), byId("devices-none-add").hidden], ["No device matches", true]);
+    }
     section.rows.clear();
     assert.equal(byId("devices-rows").children.length, 0);
 });

@@ -61,7 +61,8 @@ export class DevicesSection {
         byId("devices-none").hidden = !isEmpty;
         byId("devices-none-add").hidden = model.devices.size > 0;
         const none = model.areDevicesKnown ? _("No device is learned yet") : _("The devices are not known yet");
-        setText(byId("devices-none-title"), model.devices.size ? _("No device matches") : none);
+        const noMatch = part === "silent" && !groups.silent.length ? _("No device is silent") : _("No device matches");
+        setText(byId("devices-none-title"), model.devices.size ? noMatch : none);
         showText(byId("devices-note"), this.note(model));
         return found.length ? 0 : groups[part || "all"].length;
     }

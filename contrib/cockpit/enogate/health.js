@@ -39,7 +39,7 @@ export function heardSentence({ all: { length: count }, heard, silent, unheard }
     if (!count)
         return areDevicesKnown ? _("No device is learned yet.") : _("The devices are not known yet.");
     const unknown = count - heard.length - silent.length - unheard.length;
-    const time = minutes % 60 ? `${minutes} min` : `${minutes / 60} h`;
+    const time = minutes < 60 ? `${words.decimalText(minutes)} min` : `${words.decimalText(minutes / 60)} h`;
     const [ofAll, ofSome, withUnknown] = Number.isFinite(minutes)
         ? [ngettext("The device was heard in the last $2.", "All $1 devices were heard in the last $2.", count),
            _("$0 of $1 devices were heard in the last $2."),

@@ -29,9 +29,9 @@ const NO_RIGHTS = _("You can look, but not change anything. Turn on administrati
     "administrator to add you to the group enogate.");
 const NO_LINES = _("You can see nothing, since the lines cannot be read. Turn on administrative access in Cockpit.");
 const FEED_TEXTS = { reading: _("reading"), live: _("live"), lost: _("lost") };
-// The browser stores after how many minutes a device is silent, and the gateway, also that of each window.
-const [STORED_MINUTES, STORED_GATEWAY] = ["enogate-quiet-minutes", "enogate-gateway"];
-const DEFAULT_SILENT_MINUTES = 24 * 60;
+// The browser stores after how many hours a device is silent, and the gateway, also that of each window.
+const [STORED_HOURS, STORED_GATEWAY] = ["enogate-silent-hours", "enogate-gateway"];
+const DEFAULT_SILENT_HOURS = "24";
 // The tab of a view that has none of its own.
 const TAB_OF_VIEW = new Map([["device", "devices"], ["groups", "devices"]]);
 
@@ -49,7 +49,8 @@ class Page {
         Object.assign(this, { gateway: null, feed: null, unanswered: "", query: "", section: "overview", part: "" });
         Object.assign(this, { gateways: [], searchTimer: null });
         this.rights = new Rights(() => this.rightsChanged());
-        this.minutes = Number(localStorage.getItem(STORED_MINUTES) ?? DEFAULT_SILENT_MINUTES) || Infinity;
+        byId("devices-quiet").value = localStorage.getItem(STORED_HOURS) ?? DEFAULT_SILENT_HOURS;
+        this.minutes = 60 * Number(byId("devices-quiet").value) || Infinity;
         this.resetGateway();
         this.painter = new Painter(() => this.paint());
         this.sections = {
@@ -87,8 +88,7 @@ class Page {
         byId("trouble-help").addEventListener("click", ({ target }) => this.fixProblem(target.dataset.action, target));
         byId("search").addEventListener("input", () => this.search(byId("search").value));
         byId("hidden-clear").addEventListener("click", () => this.search(byId("search").value = ""));
-        byId("devices-quiet").value = String(Number.isFinite(this.minutes) ? this.minutes : 0);
-        byId("devices-quiet").addEventListener("input", () => this.setMinutes(byId("devices-quiet").value));
+        byId("devices-quiet").addEventListener("input", () => this.setHours(byId("devices-quiet").value));
         addEventListener("hashchange", () => this.openAddress(location.hash));
         // A click on a tab shows its section at once: the event of the new address comes later.
         for (const tab of document.querySelectorAll("#sections a"))
@@ -130,10 +130,10 @@ class Page {
         this.painter.paintNow();
     }
 
-    /** Sets after how many minutes a device is silent. */
-    setMinutes(text) {
-        localStorage.setItem(STORED_MINUTES, text);
-        this.minutes = Number(text) || Infinity;
+    /** Sets after how many hours a device is silent. */
+    setHours(text) {
+        localStorage.setItem(STORED_HOURS, text);
+        this.minutes = 60 * Number(text) || Infinity;
         this.painter.paintNow();
     }
 

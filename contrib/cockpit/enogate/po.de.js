@@ -176,6 +176,7 @@ cockpit.locale({
     "No device is learned": [null, "Kein Gerät ist eingelernt"],
     "No device is learned yet": [null, "Noch ist kein Gerät eingelernt"],
     "No device is learned yet.": [null, "Noch ist kein Gerät eingelernt."],
+    "No device is silent": [null, "Kein Gerät ist stumm"],
     "No device matches": [null, "Kein Gerät passt"],
     "No device with this ID is learned": [null, "Kein Gerät mit dieser ID ist eingelernt"],
     "No fault is known": [null, "Kein Fehler bekannt"],
