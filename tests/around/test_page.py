@@ -315,7 +315,8 @@ class PageTest(unittest.TestCase):
         browser.type("#learn-new", device[:-1])
         browser.click("#learn-go")
         message = browser.run("return document.querySelector('#learn-new').validationMessage")
-        self.assertEqual((message, browser.text("#learn-result")), ("Enter the 8 hexadecimal digits of its ID.", ""))
+        self.assertEqual(message, "The ID has 8 characters (0-9, A-F); this one has 7.")
+        self.assertEqual(browser.text("#learn-result"), "")
         browser.type("#learn-new", ":".join(re.findall("..", device.lower())))
         Select(browser.find("#learn-profile")).select_by_value("D5-00-01")
         browser.type("#learn-label", label)
@@ -765,7 +766,7 @@ class UserActions(PageTest):
         browser.click("#edit-replace")
         browser.type("#edit-new", "01800B54")
         browser.click("#edit-swap")
-        self.wait_for_text("#edit-result", "01800B54 is already learned: Rocker switch, 2 rockers. Choose another device")
+        self.wait_for_text("#edit-result", "01800B54 is already learned: Rocker switch, 2 rockers. Choose another")
         self.assertTrue(browser.find("#edit").is_displayed())
 
     def test_a_device_is_renamed_and_removed(self):
@@ -783,7 +784,7 @@ class UserActions(PageTest):
         stick.bring("01800B6E", CLOSED)
         self.wait_for_text(self.row("01800B6E"), "s ago")
         self.open_tab("overview")
-        self.wait_for_text("#attention", "The last telegram of Misfit does not fit its profile", "Choose another")
+        self.wait_for_text("#attention", "The last telegram of Misfit does not fit its profile", "choose another")
         self.shoot("misfit")
         browser.click("#attention [href$='01800B6E']")
         self.wait_for_text("#device-packets", "learned with a profile of another kind")

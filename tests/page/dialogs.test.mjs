@@ -246,9 +246,15 @@ test("what is not an ID is not learned, and the same message as for a replacemen
         enter("new", text);
         learn.click();
         field.enter();
-        assert.equal(field.why, "Enter the 8 hexadecimal digits of its ID.", text);
+        assert.match(field.why, /^The ID has 8 characters \(0-9, A-F\)(; this one has [0-9]+)?\.$/, text);
     }
     assert.deepEqual(given, []);
+    for (const [text, wanted] of [["01:80:0a:c", "; this one has 7."], ["0x01800AC1F", "; this one has 9."],
+                                  ["01800ACG", "."], [" ", "."]]) {
+        enter("new", text);
+        learn.click();
+        assert.equal(field.why, `The ID has 8 characters (0-9, A-F)${wanted}`);
+    }
     enter("new", "01800AC1");
     enter("label", "Tür");
     field.enter();
@@ -616,7 +622,7 @@ test("what is not an ID is not sent, and neither is anything without the right t
     for (const text of ["", "01800AC", "01800AC1F", "01800ACG", "; reboot", "--help", "Küche"]) {
         field.value = text;
         button.click();
-        assert.equal(field.why, "Enter the 8 hexadecimal digits of its ID.", text);
+        assert.match(field.why, /^The ID has 8 characters \(0-9, A-F\)/, text);
     }
     page.canOrderNow = false;
     replacing();

@@ -171,7 +171,7 @@ test("a device whose last telegram its profile does not fit is listed, and many 
                                     "warn: The last telegram of <b> does not fit its profile [Show]"]);
     const [found] = attention(model);
     assert.deepEqual([found.target, found.detail],
-                     ["#/device/01800A01", "Choose another profile: Show, and then Edit …."]);
+                     ["#/device/01800A01", "Press Show, then Edit, and choose another profile."]);
     ids.forEach(id => take(id, "wrong_kind"));
     assert.deepEqual(attention(model).map(({ text, target }) => [text, target]),
                      [["The last telegrams of 4 devices do not fit their profiles", "#/devices/misfit"]]);

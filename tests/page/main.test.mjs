@@ -228,6 +228,15 @@ test("who may write the desk gives orders without becoming root, but starts no s
     await settle();
     const { words, options } = started("systemctl", "restart").at(-1);
     assert.deepEqual([words, options.superuser], [["systemctl", "restart", "enogate@hall.service"], "require"]);
+    assert.match(byId("gateway-note").textContent, /^Restarted at \d\d:\d\d:\d\d\.$/);
+    // A restart that fails is an error of the page.
+    const { outputOf } = machine;
+    machine.outputOf = given => given[1] === "restart" ? Error("why") : outputOf(given);
+    byId("gateway-restart").click();
+    await settle();
+    assert.deepEqual([byId("gateway-note").textContent, byId("problem-text").textContent], ["", "why"]);
+    machine.outputOf = outputOf;
+    byId("problem-close").click();
     hasDesk = false;
 });
 

@@ -239,6 +239,17 @@ test("packets have the readings of learned devices, and only the newest are show
     assert.deepEqual(shown(), ["its length does not fit its profile", "Output 100 %", "decoded"]);
 });
 
+test("only with a pointer the section of the packets says that the list stands still", () => {
+    const section = new PacketsSection(page);
+    const { matchMedia } = globalThis;
+    for (const [matches, wanted] of [[true, ""], [false, " The list stands still while the pointer is on it."]]) {
+        globalThis.matchMedia = query => ({ matches: matches && query === "(pointer: coarse)" });
+        section.paint();
+        assert.equal(text("packets-note"), `The last 2 packets are shown, of the last 500.${wanted}`);
+    }
+    globalThis.matchMedia = matchMedia;
+});
+
 test("the label of a device in the packets leads to its view, and a sender that is not learned has no link", () => {
     byId("packets-rows").replaceChildren();
     const section = new PacketsSection(page);

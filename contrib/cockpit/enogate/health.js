@@ -110,7 +110,7 @@ export function findProblems({ groups, now, ...facts }) {
     found.push(...deviceProblems(groups.unanswered, "actuators", SILENT_HINT,
                                  name => format(_("$0 did not answer an order"), name), count =>
         ngettext("$0 device did not answer an order", "$0 devices did not answer an order", count)),
-               ...deviceProblems(groups.misfit, "misfit", _("Choose another profile: Show, and then Edit …."),
+               ...deviceProblems(groups.misfit, "misfit", _("Press Show, then Edit, and choose another profile."),
                                  name => format(_("The last telegram of $0 does not fit its profile"), name), count =>
         ngettext("The last telegram of $0 device does not fit its profile",
                  "The last telegrams of $0 devices do not fit their profiles", count)),

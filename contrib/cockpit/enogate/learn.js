@@ -3,7 +3,7 @@
 import { _, format } from "./cockpit.js";
 import { acceptField, byId, onEnter, setOptions, setText, showText } from "./dom.js";
 import { LabelField } from "./label.js";
-import { idIn, labelOrder, reasonOf } from "./orders.js";
+import { idCharacters, idIn, labelOrder, reasonOf } from "./orders.js";
 import * as words from "./words.js";
 
 /** Whether a sender can have this profile. A teach-in query (UTE) may ask for any kind. */
@@ -20,15 +20,17 @@ export function setProfiles(select, profiles, selected) {
     setOptions(select, first ? options : [["", _("Choose the profile …")], ...options], first);
 }
 
-const ID_RULE = _("Enter the 8 hexadecimal digits of its ID.");
+const ID_RULE = _("The ID has 8 characters (0-9, A-F).");
+const WRONG_LENGTH = _("The ID has 8 characters (0-9, A-F); this one has $0.");
 const PROFILE_RULE = _("Choose the profile: the data sheet of the device names it.");
 // A sender that was not heard may have any profile.
 const UNHEARD = { rorg: "", eep: null };
 
 /** The ID in a field; null if there is none, and the browser then says so. */
 export function acceptedId(field) {
-    const id = idIn(field.value);
-    return acceptField(field, id ? "" : ID_RULE) ? id : null;
+    const [id, { length }] = [idIn(field.value), idCharacters(field.value)];
+    const why = length && length !== 8 ? format(WRONG_LENGTH, length) : ID_RULE;
+    return acceptField(field, id ? "" : why) ? id : null;
 }
 
 /**

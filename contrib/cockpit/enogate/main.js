@@ -264,11 +264,13 @@ class Page {
         this.painter.paintNow();
     }
 
-    /** Starts or restarts the service. @param {"start"|"restart"} verb */
+    /** Starts or restarts the service. Returns why this failed; empty if it did not. @param {"start"|"restart"} verb */
     async controlService(verb, pressed) {
         pressed.disabled = true;
-        this.showError(await reasonOf(commands.controlService(this.gateway, verb)));
+        const why = await reasonOf(commands.controlService(this.gateway, verb));
+        this.showError(why);
         await this.checkGateway();
+        return why;
     }
 
     /** Whether this user may use the button of a problem. */

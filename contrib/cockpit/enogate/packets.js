@@ -52,7 +52,8 @@ export class PacketsSection {
         const shown = format(ngettext("The last packet is shown, of the last $1.",
                                       "The last $0 packets are shown, of the last $1.", number), number, MAX_PACKETS);
         const hint = _("The list stands still while the pointer is on it.");
-        return (this.paused ? [_("Paused."), shown] : [shown, hint]).join(" ");
+        const hints = matchMedia("(pointer: coarse)").matches ? [] : [hint];
+        return (this.paused ? [_("Paused."), shown] : [shown, ...hints]).join(" ");
     }
 }
 

@@ -77,9 +77,6 @@ cockpit.locale({
     "Carbon dioxide": [null, "CO₂"],
     "Carbon dioxide, humidity and temperature sensor": [null, "CO₂-, Feuchte- und Temperatursensor"],
     "Channel": [null, "Kanal"],
-    "Choose another profile: Show, and then Edit ….": [
-        null, "Wählen Sie ein anderes Profil: Anzeigen, und dann Bearbeiten ….",
-    ],
     "Choose the profile …": [null, "Profil wählen …"],
     "Choose the profile: the data sheet of the device names it.": [
         null, "Wählen Sie das Profil: Das Datenblatt des Geräts nennt es.",
@@ -112,7 +109,6 @@ cockpit.locale({
     "Energy in Wh": [null, "Energie in Wh"],
     "Energy in Ws": [null, "Energie in Ws"],
     "Enter a whole number from 0 to $0.": [null, "Geben Sie eine ganze Zahl von 0 bis $0 ein."],
-    "Enter the 8 hexadecimal digits of its ID.": [null, "Geben Sie die 8 hexadezimalen Ziffern seiner ID ein."],
     "Error level": [null, "Fehlerstufe"],
     "Everything is all right": [null, "Alles in Ordnung"],
     "Failed": [null, "Fehlgeschlagen"],
@@ -145,7 +141,6 @@ cockpit.locale({
     ],
     "Its manual mentions bidirectional teach-in.": [null, "Die Anleitung nennt bidirektionales Einlernen."],
     "Journal": [null, "Journal"],
-    "Journal and service": [null, "Journal und Dienst"],
     "Label": [null, "Bezeichnung"],
     "Label …": [null, "Bezeichnen …"],
     "Last heard": [null, "Zuletzt empfangen"],
@@ -204,7 +199,7 @@ cockpit.locale({
     "Only the devices in the last lines are shown: no list of all devices has been read.": [
         null, "Nur die Geräte der letzten Zeilen werden gezeigt: Es wurde keine Liste aller Geräte gelesen.",
     ],
-    "Open for 2 minutes": [null, "2 Minuten lang öffnen"],
+    "Open the learn window for 2 minutes": [null, "Lernfenster für 2 Minuten öffnen"],
     "Open the learn window for “Sensor or actuator”, and press its learn button.": [
         null, "Öffnen Sie das Lernfenster für „Sensor oder Aktor“, und drücken Sie seine Lerntaste.",
     ],
@@ -230,6 +225,9 @@ cockpit.locale({
     "Power failure": [null, "Netzausfall"],
     "Power failure detection": [null, "Netzausfallerkennung"],
     "Power in kW": [null, "Leistung in kW"],
+    "Press Show, then Edit, and choose another profile.": [
+        null, "Drücken Sie „Anzeigen“, dann „Bearbeiten“, und wählen Sie ein anderes Profil.",
+    ],
     "Press a button of a device near the stick.": [null, "Drücken Sie eine Taste eines Geräts in der Nähe des Sticks."],
     "Press a button of the new device: it comes first.": [
         null, "Drücken Sie eine Taste des neuen Geräts: Es kommt nach vorn.",
@@ -252,6 +250,7 @@ cockpit.locale({
     "Restart, Back up and Set up need administrative access.": [
         null, "Neustarten, Sichern und Einrichten brauchen administrativen Zugriff.",
     ],
+    "Restarted at $0.": [null, "Neu gestartet um $0."],
     "Results": [null, "Ergebnisse"],
     "Rocker": [null, "Wippe"],
     "Rocker switch, 2 rockers": [null, "Wippentaster, 2 Wippen"],
@@ -279,6 +278,7 @@ cockpit.locale({
     "Silent after": [null, "Stumm nach"],
     "Sort by": [null, "Sortieren nach"],
     "Start": [null, "Starten"],
+    "Start, stop, journal": [null, "Start, Stopp, Journal"],
     "Stick": [null, "Stick"],
     "Stop": [null, "Stoppen"],
     "Supply voltage": [null, "Versorgungsspannung"],
@@ -289,6 +289,8 @@ cockpit.locale({
     "Temperature": [null, "Temperatur"],
     "Temperature and humidity sensor": [null, "Temperatur- und Feuchtesensor"],
     "Temperature sensor": [null, "Temperatursensor"],
+    "The ID has 8 characters (0-9, A-F).": [null, "Die ID hat 8 Zeichen (0-9, A-F)."],
+    "The ID has 8 characters (0-9, A-F); this one has $0.": [null, "Die ID hat 8 Zeichen (0-9, A-F); diese hat $0."],
     "The ID is printed on most devices.": [null, "Die ID steht auf den meisten Geräten."],
     "The command enogatectl is not installed: install the package enogate.": [
         null, "Der Befehl enogatectl fehlt: Installieren Sie das Paket enogate.",
