@@ -335,7 +335,8 @@ class PageTest(unittest.TestCase):
         path = f"/var/backups/enogate/hall-{datetime.now():%Y-%m-%d}.tar.gz"
         replaced = "; the earlier backup of this day was replaced" if os.path.exists(path) else ""
         browser.click("#gateway-backup")
-        expected_message = f"Backup written: {path}: {count} devices{replaced}"
+        copy = "It is on this computer: keep a copy elsewhere."
+        expected_message = f"Backup written: {path}: {count} devices{replaced}. {copy}"
         self.wait(lambda: browser.find("#gateway-note").text, lambda text: text == expected_message, expected_message)
         return path
 
@@ -1197,6 +1198,10 @@ class PageOnPhone(PageTest):
     def test_a_backup_does_not_make_the_page_wider(self):
         path = self.back_up()
         self.assertEqual(browser.run(FIND_UNFIT_ELEMENTS, *PHONE), [])
+        button, note = (browser.run(f"return document.querySelector('#gateway-{name}').getBoundingClientRect().toJSON()")
+                        for name in ("backup", "note"))
+        self.assertLess(note["top"] - button["bottom"], 24)
+        self.assertLessEqual(note["bottom"], PHONE[1])
         script = ("document.querySelector('#gateway-note').textContent = arguments[0];"
                   "return document.documentElement.scrollWidth")
         self.assertEqual(browser.run(script, path + "x" * 200), PHONE[0])

@@ -288,7 +288,9 @@ test("a backup is written as root, and its path and the number of devices are sh
     assert.deepEqual(shown(), ["…", true]);
     command.resolve("/var/backups/enogate/hall-2026-12-01.tar.gz: 3 devices\n");
     await settle();
-    assert.deepEqual(shown(), ["Backup written: /var/backups/enogate/hall-2026-12-01.tar.gz: 3 devices", false]);
+    assert.deepEqual(shown(), ["Backup written: /var/backups/enogate/hall-2026-12-01.tar.gz: 3 devices. It is on " +
+                               "this computer: keep a copy elsewhere.", false]);
+    assert.ok(byId("gateway-note").isScrolledTo);
     assert.deepEqual(complaints, ["", ""]);
 });
 
@@ -301,7 +303,8 @@ test("a backup that fails is an error of the page, and can be tried again", asyn
     button.click();
     started("enogatectl", "hall", "backup").at(-1).resolve("done\n");
     await settle();
-    assert.deepEqual([shown(), complaints.at(-1)], [["Backup written: done", false], ""]);
+    assert.deepEqual([shown()[1], complaints.at(-1)], [false, ""]);
+    assert.match(shown()[0], /^Backup written: done\. It is on this computer/);
 });
 
 test("a backup needs administrative rights, and its end is not shown at another gateway", async () => {

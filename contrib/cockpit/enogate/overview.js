@@ -45,10 +45,12 @@ export class OverviewSection {
             if (gateway === page.gateway)
                 page.showError(error);
             page.painter.paintNow();
+            byId("gateway-note").scrollIntoView({ block: "nearest" });
         };
+        const written = _("Backup written: $0. It is on this computer: keep a copy elsewhere.");
         show("…", "");
         runCommand(backupCommand(gateway), "root").then(
-            output => show(format(_("Backup written: $0"), output.trim()), ""), error => show("", failureText(error)));
+            output => show(format(written, output.trim()), ""), error => show("", failureText(error)));
     }
 
     paint() {

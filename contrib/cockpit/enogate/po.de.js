@@ -68,7 +68,9 @@ cockpit.locale({
         null, "BASE ist $0, aber die Basis-ID des Funkmoduls ist $1",
     ],
     "Back up": [null, "Sichern"],
-    "Backup written: $0": [null, "Sicherung geschrieben: $0"],
+    "Backup written: $0. It is on this computer: keep a copy elsewhere.": [
+        null, "Sicherung geschrieben: $0. Sie liegt auf diesem Rechner: Bewahren Sie anderswo eine Kopie auf.",
+    ],
     "Base ID": [null, "Basis-ID"],
     "Base ID of the module": [null, "Basis-ID des Funkmoduls"],
     "Blind control": [null, "Jalousieaktor"],
