@@ -328,9 +328,10 @@ test("the error of a button stays until it is closed, whatever the page asks by 
     byId("teach-close").click();
     started("enogatectl", "--json", "hall", "--", "learn", "off").at(-1).reject({ message: "enogatectl: why" });
     await settle();
-    view.open("#/overview");
-    byId("gateway-refresh").click();
-    await settle();
+    const asked = started(...LIST).length;
+    await bring(TAUGHT);
+    await pass(2);
+    assert.equal(started(...LIST).length, asked + 1);
     assert.deepEqual([byId("problem").hidden, byId("problem-text").textContent], [false, "why"]);
     byId("problem-close").click();
     assert.equal(byId("problem").hidden, true);

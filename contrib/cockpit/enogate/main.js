@@ -46,7 +46,7 @@ function leave(section) {
 
 class Page {
     constructor() {
-        Object.assign(this, { gateway: null, feed: null, unanswered: "", query: "", section: "overview", part: "" });
+        Object.assign(this, { gateway: null, feed: null, query: "", section: "overview", part: "" });
         Object.assign(this, { gateways: [], searchTimer: null });
         this.rights = new Rights(() => this.rightsChanged());
         byId("devices-quiet").value = localStorage.getItem(STORED_HOURS) ?? DEFAULT_SILENT_HOURS;
@@ -324,15 +324,9 @@ class Page {
             this.baseRun = null;
     }
 
-    /** Gives an order that nobody has asked for, and returns its error, which is shown until the gateway answers. */
+    /** Gives an order that nobody has asked for. Returns its error, which is not shown: the gateway may be starting. */
     async giveInBackground(order) {
-        if (!this.mayOrder || this.gateway === null)
-            return "";
-        const before = this.unanswered;
-        this.unanswered = await this.orderError(order);
-        if (this.unanswered || byId("problem-text").textContent === before)
-            this.showError(this.unanswered);
-        return this.unanswered;
+        return this.mayOrder && this.gateway !== null ? this.orderError(order) : "";
     }
 
     /** Why an order failed; empty if it did not. */

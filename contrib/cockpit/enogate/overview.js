@@ -23,7 +23,7 @@ export class OverviewSection {
         // What a button has done, and for which gateway.
         Object.assign(this, { page, done: {} });
         this.rows = new Rows(byId("attention"), (key, problem) => new ProblemRow(problem, page));
-        byId("gateway-refresh").addEventListener("click", () => page.refresh());
+        byId("gateway-refresh").addEventListener("click", ({ target }) => page.giveByButton(["list"], target));
         byId("gateway-restart").addEventListener("click", ({ target }) => this.restart(target));
         byId("gateway-backup").addEventListener("click", () => this.backUp());
         byId("gateway-journal").addEventListener("click", () => openService(page.gateway));
