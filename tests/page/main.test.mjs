@@ -480,7 +480,10 @@ test("after how many hours a device is silent can be changed, and the browser st
     await bring(READING);
     const hours = byId("devices-quiet");
     const isQuiet = () => byId("devices-rows").children[0].classList.contains("quiet");
-    assert.equal(hours.value, "24");
+    view.open("#/overview");
+    assert.deepEqual([hours.value, byId("verdict-text").textContent],
+                     ["24", "The device was heard in the last 24 h."]);
+    view.open("#/devices");
     for (const [text, seconds, wanted] of [["0.01", 35, false], ["0.01", 2, true], ["0", 0, false], ["24", 0, false]]) {
         hours.enterValue(text);
         await pass(seconds);

@@ -184,6 +184,10 @@ test("the age of the last telegram fits the packets below it, also if they had n
     assert.deepEqual(age("01800A04"), ["last telegram: none known", true, false]);
     page.model.take({ ...PACKET, id: "01800A03", why: "wrong_kind" }, Date.now());
     assert.deepEqual(age("01800A03"), ["last telegram: 0 s ago", false, true]);
+    // Its reading is recorded, but not its time.
+    const readings = [{ name: "CO", word: "open" }];
+    page.model.takeRecorded([{ ...DEVICE, id: "01800A04", seen: null, dbm: null, readings }]);
+    assert.deepEqual(age("01800A04"), ["last telegram: earlier", true, true]);
 });
 
 test("a device that is not learned is reported once the devices are known", () => {
