@@ -595,10 +595,10 @@ test("Enter in the field for the new ID replaces the device, and an error keeps 
 test("a device that is learned already does not replace another one, unless it may be half replaced", async () => {
     const { field, button } = replacing();
     const result = () => byId("edit-result").textContent;
-    const motion = { ...DEVICE, id: "01800AC1", eep: "A5-07-01" };
+    const motion = { ...DEVICE, id: "01800AC1", eep: "A5-08-01" };
     field.value = motion.id;
     for (const [device, name] of [[{ ...motion, label: "Hall motion" }, "Hall motion"],
-                                  [{ ...motion, label: "" }, "Motion sensor"],
+                                  [{ ...motion, label: "" }, "Light, temperature and motion sensor"],
                                   [{ ...DEVICE, id: motion.id, label: "Gate" }, "Gate"],
                                   ...HOSTILE.filter(Boolean).map(label => [{ ...motion, label }, label])]) {
         page.model.take(device, 0);
