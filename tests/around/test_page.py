@@ -643,13 +643,14 @@ class UserActions(PageTest):
         self.assertEqual(browser.text("#teach-new"), "Show the new result")
         ActionChains(browser.driver).click().perform()
         self.wait_for_text("#edit-id", "01800B64")
-        # After Enter the focus is in the list again.
-        browser.type("#edit-label", "Shed\n")
-        self.wait_until_hidden("#edit")
-        ctl("add", "01800B65", "D5-00-01")
+        browser.click("#edit-close")
+        self.wait_for_text("#teach-rows tr:first-child", "01800B65")
+        ActionChains(browser.driver).move_to_element(browser.find("#teach-rows tr:first-child")).perform()
+        ctl("add", "01800B7A", "D5-00-01")
+        self.wait_for_text("#teach-new", "Show the new result")
         browser.run("document.querySelector('#teach-list').scrollTo(0, 1000)")
         browser.click("#teach-new")
-        self.wait_for_text("#teach-rows tr:first-child", "01800B65")
+        self.wait_for_text("#teach-rows tr:first-child", "01800B7A")
         self.assertEqual(browser.run("return document.querySelector('#teach-list').scrollTop"), 0)
 
     def test_the_label_of_a_packet_opens_its_device(self):

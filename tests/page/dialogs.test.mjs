@@ -167,10 +167,7 @@ test("a sender that was learned gets its label after that", async () => {
 test("a device that was learned with a wrong profile is learned again with another one", async () => {
     const { order, result } = opened("learn");
     const [profile, learn] = [byId("learn-profile"), byId("learn-go")];
-    const choose = eep => {
-        profile.value = eep;
-        byId("learn").listeners.get("input")();
-    };
+    const choose = eep => profile.enterValue(eep, "change");
     byId("learn-label").value = "";
     learn.click();
     // No second order is given before the answer.

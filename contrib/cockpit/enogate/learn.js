@@ -57,6 +57,7 @@ export class LearnDialog {
         byId("learn-go").addEventListener("click", () => this.learn());
         byId("learn-by-id").addEventListener("click", () => this.open(null, UNHEARD));
         this.dialog.addEventListener("input", () => this.enable());
+        this.profile.addEventListener("change", () => this.enable());
     }
 
     get id() {
