@@ -644,6 +644,7 @@ class UserActions(PageTest):
         ActionChains(browser.driver).click().perform()
         self.wait_for_text("#edit-id", "01800B64")
         browser.click("#edit-close")
+        ActionChains(browser.driver).move_to_element(browser.find("h1")).perform()
         self.wait_for_text("#teach-rows tr:first-child", "01800B65")
         ActionChains(browser.driver).move_to_element(browser.find("#teach-rows tr:first-child")).perform()
         ctl("add", "01800B7A", "D5-00-01")
