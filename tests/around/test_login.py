@@ -321,7 +321,8 @@ class PageInShell(unittest.TestCase):
         self.browser.click("#gateway-backup")
         self.wait_for_text("#gateway-note", "tar.gz: 1 devices")
         [path] = (ROOT / "var/backups/enogate").iterdir()
-        self.assertEqual(self.browser.text("#gateway-note"), f"Backup written: /{path.relative_to(ROOT)}: 1 devices")
+        self.assertEqual(self.browser.text("#gateway-note"), f"Backup written: /{path.relative_to(ROOT)}: 1 devices. "
+                         "It is on this computer: keep a copy elsewhere.")
         self.assertEqual(path.stat().st_uid, uid_of("enogate"))
         with tarfile.open(path) as archive:
             self.assertIn(b"01800ABC,D5-00-01,Front door", archive.extractfile("devices.csv").read())

@@ -292,6 +292,7 @@ class PageTest(unittest.TestCase):
         self.wait_for_text(self.result(device), f"(no label){device}", "learned", "Label …")
         browser.click(self.result(device) + " button")
         self.wait_for_text("#edit-id", device)
+        self.assertEqual(browser.run("return document.activeElement.id"), "edit-label")
         browser.type("#edit-label", label)
         browser.click("#edit-save")
         self.wait_for_text(self.result(device) + " .label", label)
@@ -314,7 +315,8 @@ class PageTest(unittest.TestCase):
         browser.type("#learn-new", device[:-1])
         browser.click("#learn-go")
         message = browser.run("return document.querySelector('#learn-new').validationMessage")
-        self.assertEqual((message, browser.text("#learn-result")), ("Enter the 8 hexadecimal digits of its ID.", ""))
+        self.assertEqual(message, "The ID has 8 characters (0-9, A-F); this one has 7.")
+        self.assertEqual(browser.text("#learn-result"), "")
         browser.type("#learn-new", ":".join(re.findall("..", device.lower())))
         Select(browser.find("#learn-profile")).select_by_value("D5-00-01")
         browser.type("#learn-label", label)
@@ -333,7 +335,8 @@ class PageTest(unittest.TestCase):
         path = f"/var/backups/enogate/hall-{datetime.now():%Y-%m-%d}.tar.gz"
         replaced = "; the earlier backup of this day was replaced" if os.path.exists(path) else ""
         browser.click("#gateway-backup")
-        expected_message = f"Backup written: {path}: {count} devices{replaced}"
+        copy = "It is on this computer: keep a copy elsewhere."
+        expected_message = f"Backup written: {path}: {count} devices{replaced}. {copy}"
         self.wait(lambda: browser.find("#gateway-note").text, lambda text: text == expected_message, expected_message)
         return path
 
@@ -369,7 +372,7 @@ class ShownContents(PageTest):
         self.wait(lambda: self.ids("devices"), lambda ids: ids == ["01800A13", "01800A11", "01800A12"])
         Select(browser.find("#devices-sort")).select_by_value("id")
         self.wait(lambda: self.ids("devices"), lambda ids: ids == ["01800A11", "01800A12", "01800A13"])
-        browser.type("#devices-quiet", "0.05")
+        browser.type("#devices-quiet", "0.001")
         self.wait_for_quiet(self.row("01800A11"), True)
         stick.bring("01800A11", CLOSED)
         self.wait_for_quiet(self.row("01800A11"), False)
@@ -377,7 +380,7 @@ class ShownContents(PageTest):
         browser.click("#devices-states [data-state=silent]")
         self.wait(lambda: self.ids("devices"), lambda ids: ids == ["01800A12", "01800A13"], "the silent devices")
         browser.click("#devices-states [data-state=all]")
-        browser.type("#devices-quiet", "1440")
+        browser.type("#devices-quiet", "24")
         self.wait_for_quiet(self.row("01800A12"), False)
 
     def wait_for_quiet(self, selector: str, is_quiet: bool) -> None:
@@ -503,6 +506,7 @@ class ShownContents(PageTest):
                                  [] if reason else ["01800AE1"])
 
     def test_packets_are_shown_filtered_and_paused(self):
+        self.learn_device("01800A08", "D5-00-01")
         self.open_tab("packets")
         stick.bring("01800A04", PRESS, RELEASE)
         stick.bring("01800A05", CLOSED)
@@ -510,6 +514,11 @@ class ShownContents(PageTest):
         self.shoot("packets")
         browser.type("#search", "a04")
         self.wait_for_no_text("#packets-rows", "01800A05")
+        self.open_tab("devices")
+        self.wait_for_text("#hidden", " hidden by the search.", "Clear")
+        self.shoot("hidden")
+        self.open_tab("packets")
+        self.assertFalse(browser.find("#hidden").is_displayed())
         browser.click("#packets-pause")
         stick.bring("01800A04", "F6 70 30")
         self.wait_for_packet('"payload":"70"')
@@ -631,11 +640,19 @@ class UserActions(PageTest):
         time.sleep(1)
         self.assertEqual(browser.find(self.result("01800B64") + " button").rect["y"], top)
         self.assertNotIn("01800B65", browser.text("#teach-rows"))
+        self.assertEqual(browser.text("#teach-new"), "Show the new result")
         ActionChains(browser.driver).click().perform()
         self.wait_for_text("#edit-id", "01800B64")
         browser.click("#edit-close")
-        self.leave_page()
+        ActionChains(browser.driver).move_to_element(browser.find("h1")).perform()
         self.wait_for_text("#teach-rows tr:first-child", "01800B65")
+        ActionChains(browser.driver).move_to_element(browser.find("#teach-rows tr:first-child")).perform()
+        ctl("add", "01800B7A", "D5-00-01")
+        self.wait_for_text("#teach-new", "Show the new result")
+        browser.run("document.querySelector('#teach-list').scrollTo(0, 1000)")
+        browser.click("#teach-new")
+        self.wait_for_text("#teach-rows tr:first-child", "01800B7A")
+        self.assertEqual(browser.run("return document.querySelector('#teach-list').scrollTop"), 0)
 
     def test_the_label_of_a_packet_opens_its_device(self):
         self.learn_device("01800B66", "D5-00-01", "Garage")
@@ -649,28 +666,25 @@ class UserActions(PageTest):
 
     def test_a_device_is_learned_by_its_id(self):
         self.learn_by_id("01800B68", "Roof")
-        browser.click("#learn-by-id")
-        browser.type("#learn-new", "01800B68")
-        self.wait_for_text("#learn-result", "Roof is learned already (D5-00-01). It gets the profile that you choose.")
-        self.shoot("learn-by-id")
-        browser.click("#learn-close")
 
-    def test_a_learned_device_keeps_its_profile_unless_another_one_is_chosen(self):
+    def test_an_id_that_is_learned_already_is_refused(self):
         self.learn_device("01800B6C", "D2-01-12", "Kept")
         self.open_tab("add")
         browser.click("#learn-by-id")
-        profile = Select(browser.find("#learn-profile"))
-        profile.select_by_value("F6-02-01")
+        Select(browser.find("#learn-profile")).select_by_value("F6-02-01")
         browser.type("#learn-new", "01800B6C")
-        self.wait_for_text("#learn-result", "Kept is learned already (D2-01-12)")
-        self.assertEqual(self.value("#learn-profile"), "D2-01-12")
+        self.wait_for_text("#learn-result", "01800B6C is already learned: Kept, Electronic switch, 2 channels. Correct")
+        self.assertFalse(browser.find("#learn-go").is_enabled())
+        self.shoot("learn-by-id")
+        browser.type("#learn-new", "01800B6F")
         browser.click("#learn-go")
         self.wait_for_text("#learn-result", "Learned.")
         self.assertIn('{"eep":"D2-01-12","id":"01800B6C","label":"Kept"', ctl("list"))
-        profile.select_by_value("D2-01-11")
+        # The device that the dialog has learned can get another profile.
+        Select(browser.find("#learn-profile")).select_by_value("F6-02-02")
         browser.click("#learn-go")
         self.wait_for_text("#learn-result", "Learned.")
-        self.assertIn('{"eep":"D2-01-11","id":"01800B6C","label":"Kept"', ctl("list"))
+        self.assertIn('{"eep":"F6-02-02","id":"01800B6F"', ctl("list"))
 
     def test_a_profile_that_is_not_known_has_to_be_chosen(self):
         stick.bring("01800B6D", "A5 00000008")
@@ -755,7 +769,7 @@ class UserActions(PageTest):
         browser.click("#edit-replace")
         browser.type("#edit-new", "01800B54")
         browser.click("#edit-swap")
-        self.wait_for_text("#edit-result", "01800B54")
+        self.wait_for_text("#edit-result", "01800B54 is already learned: Rocker switch, 2 rockers. Choose another")
         self.assertTrue(browser.find("#edit").is_displayed())
 
     def test_a_device_is_renamed_and_removed(self):
@@ -773,7 +787,7 @@ class UserActions(PageTest):
         stick.bring("01800B6E", CLOSED)
         self.wait_for_text(self.row("01800B6E"), "s ago")
         self.open_tab("overview")
-        self.wait_for_text("#attention", "The last telegram of Misfit does not fit its profile", "Choose another")
+        self.wait_for_text("#attention", "The last telegram of Misfit does not fit its profile", "choose another")
         self.shoot("misfit")
         browser.click("#attention [href$='01800B6E']")
         self.wait_for_text("#device-packets", "learned with a profile of another kind")
@@ -803,7 +817,7 @@ class UserActions(PageTest):
         browser.click("#teach-close")
         self.wait_until_hidden("#window")
         self.wait_until_hidden("#teach-left")
-        self.assertTrue(browser.find("#teach-on").is_selected())
+        self.assertTrue(browser.find("#teach-answer").is_selected())
         self.assertFalse(browser.find("#problem").is_displayed(), browser.text("#problem"))
 
     def test_a_learn_window_for_one_device_says_that_it_was_learned(self):
@@ -899,7 +913,7 @@ class UserActions(PageTest):
         self.shoot("answers")
         browser.click(self.row("01800B32") + " .answer a")
         self.wait_for_text("#device-id", "01800B32")
-        self.wait_for_text("#device-act", "no answer", "Has it learned this gateway?")
+        self.wait_for_text("#device-act", "no answer", "Does it have power? Press again.")
         self.shoot("no-answer")
         browser.click("#device-act a")
         self.wait(lambda: browser.find("#teach-open").is_displayed(), bool, "the learn window")
@@ -1080,6 +1094,15 @@ class GatewaySetUp(PageTest):
         browser.click("#setup-go")
         self.wait_for_text("#gateways [aria-selected=true]", "cellar")
         self.assertEqual(other_settings.read_text(), f"SERIAL={self.port}\n")
+        self.wait_until_hidden("#setup")
+        browser.click("#gateway-setup")
+        self.wait(lambda: browser.find("#setup-go").is_enabled(), bool, "the ports")
+        ports = Select(browser.find("#setup-port"))
+        self.assertNotEqual(ports.first_selected_option.get_attribute("value"), str(self.port))
+        ports.select_by_visible_text(f"{self.port.name}, in use by cellar")
+        self.wait_for_text("#setup-result", "The gateway cellar uses this port.")
+        self.assertFalse(browser.find("#setup-go").is_enabled())
+        self.shoot("port-in-use")
 
 
 class PageOnPhone(PageTest):
@@ -1177,6 +1200,10 @@ class PageOnPhone(PageTest):
     def test_a_backup_does_not_make_the_page_wider(self):
         path = self.back_up()
         self.assertEqual(browser.run(FIND_UNFIT_ELEMENTS, *PHONE), [])
+        script = "return document.querySelector(arguments[0]).getBoundingClientRect().toJSON()"
+        button, note = (browser.run(script, selector) for selector in ("#gateway-backup", "#gateway-note"))
+        self.assertLess(note["top"] - button["bottom"], 24)
+        self.assertLessEqual(note["bottom"], PHONE[1])
         script = ("document.querySelector('#gateway-note').textContent = arguments[0];"
                   "return document.documentElement.scrollWidth")
         self.assertEqual(browser.run(script, path + "x" * 200), PHONE[0])
@@ -1357,7 +1384,7 @@ class LoadAndHostileText(PageTest):
         gateway.end()
         self.machine.set_state("hall", "inactive", "dead")
         self.wait_for_text("#trouble", "The gateway hall is stopped")
-        self.wait_for_text("#feed", "waiting")
+        self.wait_for_text("#feed", "stopped")
         gateway.start(stick, "--explain")
         count_before = len(self.machine.orders())
         browser.click("#trouble-help")
@@ -1373,16 +1400,17 @@ class LoadAndHostileText(PageTest):
         gateway.rotate()
         gateway.desk.unlink()
         browser.driver.refresh()
-        self.wait_for_text("#problem-text", "there is no desk")
         self.wait_for_text("#feed", "lost")
+        time.sleep(3)
+        self.assertFalse(browser.find("#problem").is_displayed(), browser.text("#problem"))
         gateway.start(stick, "--explain")
-        self.wait_until_hidden("#problem")
         self.wait_for_text("#feed", "live")
 
     def test_an_unplugged_stick_is_shown_and_plugged_in_again(self):
         self.learn_device("01800C12", "D5-00-01")
         stick.end()
         self.wait_for_text("#trouble", f"No stick at {stick.path}. Plug it in.")
+        self.wait_for_text("#feed", "no stick")
         gateway.end()
         stick.path.unlink()
         stick.brought.write_text("")

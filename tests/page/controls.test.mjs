@@ -118,11 +118,11 @@ test("the answer is next to the buttons: sent, answered, none, or why it failed"
     sent.done = 11;
     assert.deepEqual(shown(12), ["sent", "sent …"]);
     assert.deepEqual(shown(3011), ["silent", "no answer"]);
-    assert.match(made.answer.children[0].title, /Has it learned this gateway/);
+    assert.match(made.answer.children[0].title, /^Does it have power\? Press again\. If it has never obeyed, /);
     const full = controls("D2-01-00", true).made;
     full.fill(device("D2-01-00"), 3011);
     const hints = [made, full].map(({ element }) => element.querySelectorAll("span")
-            .filter(one => !one.hidden && one.textContent.includes("Has it learned this gateway?")).length);
+            .filter(one => !one.hidden && one.textContent.includes("Does it have power?")).length);
     assert.deepEqual(hints, [0, 1]);
     // The answer in a list leads to the view of the device, and the hint there to the learn window.
     const links = ({ element }) => element.querySelectorAll("a").map(({ href, textContent }) => [href, textContent]);

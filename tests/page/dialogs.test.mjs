@@ -2,7 +2,7 @@ import assert from "node:assert/strict";
 import { beforeEach, mock, test } from "node:test";
 
 import { Model } from "../../contrib/cockpit/enogate/model.js";
-import { byId, settle } from "./page.mjs";
+import { byId, focused, settle } from "./page.mjs";
 import { DEVICE, HOSTILE, LIST, PACKET, READING } from "./samples.mjs";
 
 const { EditDialog } = await import("../../contrib/cockpit/enogate/edit.js");
@@ -67,6 +67,14 @@ for (const name of Object.keys(dialogs)) {
         assert.deepEqual(given, [order, order]);
     });
 }
+
+test("the focus is in the field for the label if the dialog is opened to enter one, and not on the profile", () => {
+    byId("edit-save").focus();
+    dialogs.edit.dialog.open(DEVICE.id, DEVICE);
+    assert.equal(focused(), byId("edit-save"));
+    dialogs.edit.dialog.open(DEVICE.id, DEVICE, true);
+    assert.equal(focused(), byId("edit-label"));
+});
 
 /** Opens the dialog of a device that is learned, chooses a profile and enters a label. Returns the profiles. */
 function editing(device, eep, label) {
@@ -186,12 +194,10 @@ function learning(...devices) {
     page.model.take({ ...LIST, count: devices.length }, 0);
     byId("learn-by-id").click();
     const enter = (name, value) => {
-        if (name === "profile")
-            return byId("learn-profile").enterValue(value, "change");
-        byId(`learn-${name}`).enterValue(value, name === "new" ? "none" : "input");
+        byId(`learn-${name}`).enterValue(value, name === "label" ? "input" : "none");
         byId("learn").listeners.get("input")();
     };
-    byId("learn-new").listeners.set("none", () => {});
+    ["new", "profile"].forEach(name => byId(`learn-${name}`).listeners.set("none", () => {}));
     return { enter, field: byId("learn-new"), profile: byId("learn-profile"), learn: byId("learn-go"),
              result: () => byId("learn-result").textContent };
 }
@@ -237,9 +243,15 @@ test("what is not an ID is not learned, and the same message as for a replacemen
         enter("new", text);
         learn.click();
         field.enter();
-        assert.equal(field.why, "Enter the 8 hexadecimal digits of its ID.", text);
+        assert.match(field.why, /^The ID has 8 characters \(0-9, A-F\)(; this one has [0-9]+)?\.$/, text);
     }
     assert.deepEqual(given, []);
+    for (const [text, wanted] of [["01:80:0a:c", "; this one has 7."], ["0x01800AC1F", "; this one has 9."],
+                                  ["01800ACG", "."], [" ", "."]]) {
+        enter("new", text);
+        learn.click();
+        assert.equal(field.why, `The ID has 8 characters (0-9, A-F)${wanted}`);
+    }
     enter("new", "01800AC1");
     enter("label", "Tür");
     field.enter();
@@ -252,82 +264,52 @@ test("what is not an ID is not learned, and the same message as for a replacemen
     assert.deepEqual([given, disabled.disabled], [[], true]);
 });
 
-test("an ID that is learned already is pointed out, and its device can get another profile", () => {
-    const { enter, learn, result } = learning(DEVICE, { ...DEVICE, id: "01800AC1", label: "" });
-    enter("new", "01800AB");
-    assert.equal(result(), "");
-    enter("new", "01800ABC");
-    assert.equal(result(), "Front door is learned already (D5-00-01). It gets the profile that you choose.");
-    // Its own label is no double one.
-    enter("label", "Front door");
-    assert.equal(byId("learn-label-error").hidden, true);
-    enter("new", "01800AC1");
-    assert.match(result(), /^01800AC1 is learned already/);
-    enter("label", "Front door");
-    assert.match(byId("learn-label-error").textContent, /^01800ABC has this label/);
-    enter("label", "");
-    enter("profile", "F6-02-01");
-    learn.click();
-    assert.deepEqual(given, ["add 01800AC1 F6-02-01"]);
-});
-
 /** A learned lamp with two channels. */
 const LAMP = { ...DEVICE, id: "01800AC1", eep: "D2-01-12", label: "Lamp" };
 
-test("a learned device keeps its profile unless another one is chosen after its ID was entered", async () => {
-    const { enter, profile, learn } = learning(LAMP, { ...DEVICE, id: "01800AC3" });
+test("an ID that is learned already is refused, and its device keeps its profile and its label", () => {
+    const { enter, field, learn, result } = learning(LAMP, { ...DEVICE, label: "" });
     enter("profile", "F6-02-01");
-    enter("new", "01800AC");
-    assert.equal(profile.value, "F6-02-01");
-    enter("new", "01800AC1");
-    assert.equal(profile.value, "D2-01-12");
-    enter("new", "01800AC3");
-    assert.equal(profile.value, "D5-00-01");
-    // What was chosen for a new device is chosen for the next one, too.
-    enter("new", "01800AC2");
-    assert.equal(profile.value, "F6-02-01");
-    enter("new", "01800AC1");
-    enter("label", "Hall lamp");
-    assert.equal(profile.value, "D2-01-12");
-    learn.click();
-    assert.deepEqual(given, ["add 01800AC1 D2-01-12"]);
-    answer.reject({ message: "enogatectl: why" });
-    await settle();
-    enter("profile", "D2-01-00");
-    enter("label", "");
-    dialogs.learn.dialog.paint();
-    learn.click();
-    assert.equal(given.at(-1), "add 01800AC1 D2-01-00");
-});
-
-test("a profile that was selected for a learned device is not kept for a new one", () => {
-    const { enter, field, profile, learn } = learning(LAMP);
-    enter("new", LAMP.id);
-    enter("new", "01800AC2");
-    assert.equal(profile.value, "");
-    learn.click();
-    field.enter();
-    assert.deepEqual([given, profile.why], [[], "Choose the profile: the data sheet of the device names it."]);
-    enter("profile", "D5-00-01");
-    learn.click();
-    assert.deepEqual([given, profile.why], [["add 01800AC2 D5-00-01"], ""]);
-});
-
-test("a device that another program learns meanwhile keeps its profile, also without a repaint", () => {
-    for (const isPainted of [true, false]) {
-        given.length = 0;
-        const { enter, learn, profile, result } = learning();
-        enter("new", LAMP.id);
-        enter("profile", "F6-02-01");
-        page.model.take(LAMP, 0);
-        page.model.take(LIST, 0);
-        if (isPainted) {
-            dialogs.learn.dialog.paint();
-            assert.equal(profile.value, LAMP.eep);
-            assert.match(result(), /^Lamp is learned already \(D2-01-12\)/);
-        }
+    for (const [id, name] of [[LAMP.id, "Lamp, Electronic switch, 2 channels"], [DEVICE.id, "Contact"]]) {
+        enter("new", id);
+        const refusal = `${id} is already learned: ${name}. Correct the ID, or use Edit.`;
+        assert.deepEqual([result(), learn.disabled], [refusal, true]);
+        enter("label", "Roof");
         learn.click();
-        assert.deepEqual(given, ["add 01800AC1 D2-01-12"]);
+        field.enter();
+        assert.deepEqual([given, result()], [[], refusal]);
+        // What was entered stays for the ID that was meant.
+        enter("new", "01800AC");
+        assert.deepEqual([result(), learn.disabled], ["", false]);
+    }
+    enter("new", "01800AC2");
+    learn.click();
+    assert.deepEqual(given, ["add 01800AC2 F6-02-01"]);
+    for (const label of HOSTILE.filter(Boolean)) {
+        const { enter: again, result: shown } = learning({ ...LAMP, label });
+        again("new", LAMP.id);
+        assert.equal(shown(), `01800AC1 is already learned: ${label}, Electronic switch, 2 channels. Correct the ID, ` +
+                     "or use Edit.");
+    }
+});
+
+test("a device that another program learns meanwhile is not overwritten, also without a repaint", () => {
+    for (const sender of [null, { rorg: "D2", eep: null }]) {
+        for (const isPainted of [true, false]) {
+            const { enter, learn, result } = learning();
+            if (sender)
+                dialogs.learn.dialog.open(LAMP.id, sender);
+            enter("new", LAMP.id);
+            enter("profile", "D2-01-00");
+            page.model.take(LAMP, 0);
+            page.model.take(LIST, 0);
+            if (isPainted) {
+                dialogs.learn.dialog.paint();
+                assert.match(result(), /^01800AC1 is already learned: Lamp, /);
+            }
+            learn.click();
+            assert.deepEqual([given, learn.disabled], [[], isPainted]);
+        }
     }
 });
 
@@ -336,6 +318,10 @@ test("the profile of a device that was just learned can be changed before and af
     enter("new", LAMP.id);
     enter("profile", "D2-01-12");
     learn.click();
+    // The gateway reports it before the order has ended.
+    page.model.take({ ...LAMP, type: "teach", result: "accepted" }, 0);
+    dialogs.learn.dialog.paint();
+    assert.equal(result(), "…");
     answer.resolve();
     await settle();
     assert.match(result(), /^Learned/);
@@ -345,11 +331,18 @@ test("the profile of a device that was just learned can be changed before and af
     dialogs.learn.dialog.paint();
     enter("label", "");
     assert.equal(profile.value, "D2-01-11");
-    // The profile that is chosen for another device is not that of this one.
+    learn.click();
+    assert.equal(given.at(-1), "add 01800AC1 D2-01-11");
+    answer.reject({ message: "enogatectl: why" });
+    await settle();
+    learn.click();
+    assert.deepEqual(given.slice(1), Array(2).fill("add 01800AC1 D2-01-11"));
+    answer.resolve();
+    await settle();
+    // After another ID was entered, it is a device like any other.
     enter("new", "01800AC2");
-    enter("profile", "F6-01-01");
     enter("new", LAMP.id);
-    assert.equal(profile.value, "D2-01-12");
+    assert.match(result(), /^01800AC1 is already learned: Lamp, /);
 });
 
 test("a sender that was heard and learned by another program before the click keeps that profile", () => {
@@ -366,7 +359,7 @@ test("after an actuator was learned, the dialog says that it has to learn the ga
     const learn = async (id, sender, eep) => {
         learning();
         dialogs.learn.dialog.open(id, sender);
-        byId("learn-profile").enterValue(eep, "change");
+        byId("learn-profile").value = eep;
         byId("learn-go").click();
         assert.equal(isTold(), false);
         answer.resolve();
@@ -596,12 +589,37 @@ test("Enter in the field for the new ID replaces the device, and an error keeps 
     assert.equal(byId("edit-swap").disabled, false);
 });
 
+test("a device that is learned already does not replace another one, unless it may be half replaced", async () => {
+    const { field, button } = replacing();
+    const result = () => byId("edit-result").textContent;
+    const motion = { ...DEVICE, id: "01800AC1", eep: "A5-08-01" };
+    field.value = motion.id;
+    for (const [device, name] of [[{ ...motion, label: "Hall motion" }, "Hall motion"],
+                                  [{ ...motion, label: "" }, "Light, temperature and motion sensor"],
+                                  [{ ...DEVICE, id: motion.id, label: "Gate" }, "Gate"],
+                                  ...HOSTILE.filter(Boolean).map(label => [{ ...motion, label }, label])]) {
+        page.model.take(device, 0);
+        page.model.take(LIST, 0);
+        button.click();
+        assert.deepEqual([given, result()], [[], `01800AC1 is already learned: ${name}. Choose another device, or ` +
+                                                 `remove ${name} first.`]);
+    }
+    for (const label of ["", DEVICE.label]) {
+        page.model.take({ ...DEVICE, id: motion.id, label }, 0);
+        page.model.take(LIST, 0);
+        button.click();
+        assert.equal(given.pop(), "enogatectl hall replace 01800ABC 01800AC1");
+        answer.reject({ message: "enogatectl: why" });
+        await settle();
+    }
+});
+
 test("what is not an ID is not sent, and neither is anything without the right to give orders", () => {
     const { field, button } = replacing();
     for (const text of ["", "01800AC", "01800AC1F", "01800ACG", "; reboot", "--help", "Küche"]) {
         field.value = text;
         button.click();
-        assert.equal(field.why, "Enter the 8 hexadecimal digits of its ID.", text);
+        assert.match(field.why, /^The ID has 8 characters \(0-9, A-F\)/, text);
     }
     page.canOrderNow = false;
     replacing();

@@ -12,7 +12,7 @@ machine.outputOf = ([name, ...words]) => {
     if (words[0] === "paths")
         return `${JSON.stringify(Object.fromEntries(names.map(one => [one, {}])))}\n`;
     if (name === "find")
-        return "/dev/enocean\n";
+        return "/dev/enocean\n/dev/ttyUSB0\n";
     if (name === "systemctl" && words[0] === "enable") {
         const [, unit] = words.at(-1).match(/^enogate@(.*)\.service$/);
         running.push(unit);
@@ -111,20 +111,25 @@ test("a gateway that starts is asked until it answers, and its lines appear with
             return Error("enogatectl: there is no desk");
         return words[1] === "-r" && !hasLines ? Error("no") : outputOf(words);
     };
+    // As in index.html.
+    byId("problem").hidden = true;
+    const before = lists();
     byId("gateways").children[1].click();
     for (const time of [0, 500, 500]) {
         mock.timers.tick(time);
         await settle();
     }
-    assert.deepEqual([byId("problem").hidden, byId("problem-text").textContent, byId("feed").dataset.state],
-                     [false, "there is no desk", "lost"]);
+    // Nobody has asked for the devices but the page itself.
+    assert.deepEqual([lists(), byId("problem").hidden, byId("problem-text").textContent, byId("feed").dataset.state],
+                     [before + 1, true, "", "lost"]);
     hasDesk = true;
     for (let number = 0; number < 3; number++)
         await pass();
     started("enogatectl", "hall", "lines").at(-1).write("\n");
     await pass();
-    assert.deepEqual([byId("problem").hidden, byId("feed").dataset.state], [true, "live"]);
+    assert.equal(byId("feed").dataset.state, "live");
     const asked = lists();
+    assert.ok(asked > before + 1);
     await pass();
     assert.equal(lists(), asked);
     machine.outputOf = outputOf;
@@ -145,6 +150,10 @@ test("a gateway that does not answer is not asked for ever", async () => {
     for (let number = 0; number < 10; number++)
         await pass();
     assert.equal(lists(), last);
-    assert.equal(byId("problem-text").textContent, "why");
+    assert.deepEqual([byId("problem").hidden, byId("problem-text").textContent], [true, ""]);
+    // Somebody has asked for them by the button.
+    byId("gateway-refresh").click();
+    await settle();
+    assert.deepEqual([lists(), byId("problem").hidden, byId("problem-text").textContent], [last + 1, false, "why"]);
     machine.outputOf = outputOf;
 });

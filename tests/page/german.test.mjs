@@ -74,7 +74,7 @@ function isForPeople(one) {
 }
 
 test("texts of index.html are translated, but for units", () => {
-    assert.deepEqual(untranslatedHtml, ["min", "s"]);
+    assert.deepEqual(untranslatedHtml, ["h", "s"]);
 });
 
 test("a translation that looks like a placeholder, or text from outside, changes nothing", () => {
@@ -92,7 +92,7 @@ test("plurals", () => {
     assert.deepEqual([1, 2].map(verdict), ["Ein Punkt braucht Aufmerksamkeit", "2 Punkte brauchen Aufmerksamkeit"]);
     const heard = (count, minutes) => {
         const all = Array.from({ length: count }, (_, index) => [String(index), {}]);
-        return health.heardSentence({ all, heard: all, silent: [] }, { areDevicesKnown: true }, minutes);
+        return health.heardSentence({ all, heard: all, silent: [], unheard: [] }, { areDevicesKnown: true }, minutes);
     };
     assert.deepEqual([heard(1, 60), heard(3, 60), heard(3, Infinity)], [
         "Das Gerät wurde innerhalb von 1 h empfangen.", "Alle 3 Geräte wurden innerhalb von 1 h empfangen.",

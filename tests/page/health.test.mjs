@@ -57,12 +57,22 @@ test("devices are grouped by what is known of them", () => {
     const ids = Object.fromEntries(Object.entries(groups).map(([name, found]) =>
         [name, found.map(([id]) => id.slice(-2)).join()]));
     assert.deepEqual(ids, { all: "01,02,03,04", silent: "02", heard: "01,04", weak: "02,04", actuators: "04",
-                            unanswered: "04", misfit: "" });
+                            unanswered: "04", misfit: "", unheard: "" });
     const sentence = minutes => health.heardSentence(health.devicesByState(model, sent, NOW, minutes), model, minutes);
     assert.equal(sentence(10), "2 of 4 devices were heard in the last 10 min; for 1 this is not known yet.");
     assert.equal(sentence(120), "3 of 4 devices were heard in the last 2 h; for 1 this is not known yet.");
+    assert.match(sentence(60 * 1.1), / 1\.1 h; /);
     assert.equal(sentence(Infinity), "3 of 4 devices were heard; for 1 this is not known yet.");
+    for (const id of ["05", "06"])
+        model.device(`01800A${id}`, "D5-00-01");
+    assert.equal(sentence(120), "3 of 6 devices were heard in the last 2 h; for 1 this is not known yet. " +
+                 "2 devices were never heard.");
+    // One is silent if the page was open for this time.
+    assert.equal(sentence(0.5), "2 of 6 devices were heard in the last 0.5 min.");
     model.devices.delete("01800A03");
+    model.devices.delete("01800A06");
+    assert.equal(sentence(Infinity), "3 of 4 devices were heard. 1 device was never heard.");
+    model.devices.delete("01800A05");
     assert.equal(sentence(24 * 60), "All 3 devices were heard in the last 24 h.");
 });
 
@@ -161,7 +171,7 @@ test("a device whose last telegram its profile does not fit is listed, and many 
                                     "warn: The last telegram of <b> does not fit its profile [Show]"]);
     const [found] = attention(model);
     assert.deepEqual([found.target, found.detail],
-                     ["#/device/01800A01", "Choose another profile: Show, and then Edit …."]);
+                     ["#/device/01800A01", "Press Show, then Edit, and choose another profile."]);
     ids.forEach(id => take(id, "wrong_kind"));
     assert.deepEqual(attention(model).map(({ text, target }) => [text, target]),
                      [["The last telegrams of 4 devices do not fit their profiles", "#/devices/misfit"]]);
@@ -185,7 +195,7 @@ test("a device that did not answer is listed by its label, whatever it contains"
         const [found] = attention(model, { sent });
         assert.deepEqual([found.level, found.text, found.target],
                          ["warn", `${label} did not answer an order`, "#/device/01800A01"]);
-        // It may never have been taught in.
-        assert.match(found.detail, /^Has it learned this gateway\? If not, open the learn window, /);
+        // It may have no power, or may never have been taught in.
+        assert.match(found.detail, /^Does it have power\? .* never obeyed, it has to learn this gateway: open the learn /);
     }
 });

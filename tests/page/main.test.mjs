@@ -181,6 +181,7 @@ test("whoever may neither give orders nor read the lines is not told to look", a
     assert.match(byId("read-only").textContent, /^You can look, but not change anything\./);
     started("enogatectl", "hall", "lines").at(-1).reject({ message: "enogatectl: why" });
     await pass(2);
+    assert.deepEqual([byId("feed").textContent, byId("feed").dataset.state], ["lost", "lost"]);
     assert.match(byId("read-only").textContent, /^You can see nothing, since the lines cannot be read\. Turn on /);
     assert.equal(byId("read-only").hidden, false);
     await pass(5);
@@ -227,6 +228,15 @@ test("who may write the desk gives orders without becoming root, but starts no s
     await settle();
     const { words, options } = started("systemctl", "restart").at(-1);
     assert.deepEqual([words, options.superuser], [["systemctl", "restart", "enogate@hall.service"], "require"]);
+    assert.match(byId("gateway-note").textContent, /^Restarted at \d\d:\d\d:\d\d\.$/);
+    // A restart that fails is an error of the page.
+    const { outputOf } = machine;
+    machine.outputOf = given => given[1] === "restart" ? Error("why") : outputOf(given);
+    byId("gateway-restart").click();
+    await settle();
+    assert.deepEqual([byId("gateway-note").textContent, byId("problem-text").textContent], ["", "why"]);
+    machine.outputOf = outputOf;
+    byId("problem-close").click();
     hasDesk = false;
 });
 
@@ -239,14 +249,18 @@ test("a service that is stopped can be started, and gets no orders", async () =>
     assert.match(byId("attention").textContent, /The gateway hall is stopped/);
     assert.equal(byId("gateway-refresh").disabled, true);
     view.open("#/devices");
+    assert.deepEqual([byId("feed").textContent, byId("feed").dataset.state], ["stopped", "stopped"]);
     assert.deepEqual([byId("trouble").hidden, byId("trouble-help").textContent], [false, "Start"]);
     assert.equal(byId("trouble-help").disabled, false);
     byId("trouble-help").click();
     await settle();
     assert.deepEqual(started("systemctl", "start").at(-1).words, ["systemctl", "start", "enogate@hall.service"]);
+    machine.outputOf = words => words[1] === "-c" ? Object.assign(Error("no"), { exit_status: 1 }) : outputOf(words);
+    await pass(3);
+    assert.deepEqual([byId("feed").textContent, byId("feed").dataset.state], ["no stick", "stopped"]);
     machine.outputOf = outputOf;
     await pass(3);
-    assert.equal(byId("trouble").hidden, true);
+    assert.deepEqual([byId("trouble").hidden, byId("feed").textContent], [true, "live"]);
     byId("gateway-journal").click();
     assert.deepEqual(jumps, ["/system/services#/enogate%40hall.service"]);
 });
@@ -314,9 +328,10 @@ test("the error of a button stays until it is closed, whatever the page asks by 
     byId("teach-close").click();
     started("enogatectl", "--json", "hall", "--", "learn", "off").at(-1).reject({ message: "enogatectl: why" });
     await settle();
-    view.open("#/overview");
-    byId("gateway-refresh").click();
-    await settle();
+    const asked = started(...LIST).length;
+    await bring(TAUGHT);
+    await pass(2);
+    assert.equal(started(...LIST).length, asked + 1);
     assert.deepEqual([byId("problem").hidden, byId("problem-text").textContent], [false, "why"]);
     byId("problem-close").click();
     assert.equal(byId("problem").hidden, true);
@@ -456,4 +471,45 @@ test("only an administrator writes a backup, and not a member of the group", asy
     byId("gateway-backup").click();
     await settle();
     assert.equal(started("enogatectl", "yard", "backup").length, 1);
+});
+
+test("after how many hours a device is silent can be changed, and the browser stores it", async () => {
+    view.open("#/devices");
+    byId("gateways").children[1].click();
+    await settle();
+    await bring(READING);
+    const hours = byId("devices-quiet");
+    const isQuiet = () => byId("devices-rows").children[0].classList.contains("quiet");
+    view.open("#/overview");
+    assert.deepEqual([hours.value, byId("verdict-text").textContent],
+                     ["24", "The device was heard in the last 24 h."]);
+    view.open("#/devices");
+    for (const [text, seconds, wanted] of [["0.01", 35, false], ["0.01", 2, true], ["0", 0, false], ["24", 0, false]]) {
+        hours.enterValue(text);
+        await pass(seconds);
+        assert.deepEqual([isQuiet(), localStorage.getItem("enogate-silent-hours")], [wanted, text]);
+    }
+});
+
+test("a list that is empty because of the search says so, in each section, and the search can be cleared", async () => {
+    const sensor = { ...READING, id: "01800AA1" };
+    byId("gateways").children[1].click();
+    await settle();
+    await bring(PACKET, sensor, { ...sensor, id: "01800AA2" });
+    const shown = () => byId("hidden").hidden ? "" : byId("hidden-text").textContent;
+    const search = byId("search");
+    for (const [address, count] of [["#/devices", "2 entries are"], ["#/devices/weak", ""], ["#/add", "1 entry is"],
+                                    ["#/packets", "1 entry is"], ["#/overview", ""], ["#/device/01800AA1", ""]]) {
+        view.open("#/devices");
+        search.enterValue("no such device");
+        view.open(address);
+        assert.equal(shown(), count && `${count} hidden by the search.`, address);
+        byId("hidden-clear").click();
+        assert.deepEqual([search.value, shown(), location.hash], ["", "", address]);
+    }
+    view.open("#/devices");
+    assert.equal(byId("devices-rows").children.length, 2);
+    search.enterValue("aa1");
+    assert.deepEqual([byId("devices-rows").children.length, shown()], [1, ""]);
+    search.enterValue("");
 });

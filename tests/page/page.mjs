@@ -109,6 +109,10 @@ class Element {
         Element.focused = this;
     }
 
+    scrollIntoView() {
+        this.isScrolledTo = true;
+    }
+
     showModal() {
         this.open = true;
     }

@@ -47,16 +47,18 @@ test("each start of a gateway that can answer is another run", () => {
 test("what is wrong with a gateway, and which button helps", () => {
     const gatewayFault = (ActiveState, SubState, hasStick) =>
         places.gatewayFault("hall", ActiveState && { ActiveState, SubState }, hasStick, "/dev/enocean");
-    const stopped = { text: "The gateway hall is stopped", detail: "", action: "Start" };
+    const stopped = { text: "The gateway hall is stopped", detail: "", action: "Start", word: "stopped" };
     assert.deepEqual([gatewayFault("active", "running", true), gatewayFault("activating", "start-pre", true),
                       gatewayFault(null, null, null)], [null, null, null]);
     assert.deepEqual(gatewayFault("inactive", "dead", true), stopped);
     assert.deepEqual(gatewayFault("failed", "failed", false), stopped);
     assert.deepEqual(gatewayFault("active", "running", false), {
         text: "No stick at /dev/enocean", detail: "Plug it in. The gateway continues by itself.", action: "Journal",
+        word: "no stick",
     });
     assert.deepEqual(gatewayFault("activating", "auto-restart", true), {
         text: "The gateway hall is restarting", detail: "The journal has the reason.", action: "Journal",
+        word: "restarting",
     });
 });
 

@@ -31,11 +31,17 @@ const ids = (filter, column, isReverse) => selected(devices(), filter, column, i
 
 test("devices are sorted by each column, in both directions", () => {
     const [contact, sensor] = [["BC", "C0"], ["C0", "BC"]];
-    const wanted = { label: contact, id: contact, profile: sensor, signal: sensor, received: sensor };
+    const wanted = { label: contact, id: contact, profile: sensor, signal: contact, received: sensor };
     for (const [column, order] of Object.entries(wanted)) {
         assert.deepEqual(ids("", column), order, column);
         assert.deepEqual(ids("", column, true), [...order].reverse(), column);
     }
+});
+
+test("devices without a signal come after the weakest and the strongest one", () => {
+    const found = devices();
+    found.set("01800A00", { ...found.get("01800ABC"), dbm: null });
+    assert.deepEqual(selected(found, "", "signal").map(([id]) => id), ["01800ABC", "01800AC0", "01800A00"]);
 });
 
 test("a device that was heard before the page was opened is sorted by the recorded time", () => {

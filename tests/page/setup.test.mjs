@@ -69,9 +69,27 @@ test("a port that no gateway uses is chosen at first, also if the settings have 
     page.gateways = ["hall"];
     await open();
     assert.deepEqual(chosen(), [free]);
+    // The others say who uses them, and are refused.
+    assert.deepEqual(byId("setup-port").children.map(({ textContent }) => textContent),
+                     ["usb-A-if00-port0, in use by hall", "usb-B-if00-port0", "/dev/ttyUSB0, in use by hall"]);
+    const choose = async port => {
+        byId("setup-port").enterValue(port, "change");
+        await settle();
+        return [result(), enabled()];
+    };
+    const refused = ["The gateway hall uses this port.", [false, false]];
+    for (const [port, wanted] of [[used, refused], [free, ["", [true, true]]], ["/dev/ttyUSB0", refused]])
+        assert.deepEqual(await choose(port), wanted, port);
+    byId("setup-name").value = "yard";
+    byId("setup-name").enter();
+    await settle();
+    assert.deepEqual([files.size, started("systemctl").length], [0, 0]);
     outputs.find = `/dev/ttyUSB0\n${used}\n`;
     await open();
-    assert.deepEqual(chosen(), [used]);
+    const [none] = byId("setup-port").children;
+    assert.deepEqual([chosen(), none.disabled, result(), enabled()],
+                     [[""], true, "No free serial port was found. Plug in the stick, and open this dialog again.",
+                      [false, false]]);
     machine.outputOf = outputOf;
 });
 
@@ -79,7 +97,7 @@ test("without a serial port nothing can be set up", async () => {
     outputs.find = Error("find: /dev/serial/by-id: No such file or directory");
     await open();
     assert.deepEqual([result(), enabled()],
-                     ["No serial port was found. Plug in the stick, and open this dialog again.", [false, false]]);
+                     ["No free serial port was found. Plug in the stick, and open this dialog again.", [false, false]]);
     byId("setup-name").enter();
     await settle();
     assert.deepEqual([files.size, started("systemctl").length], [0, 0]);

@@ -156,7 +156,7 @@ test("a result has the label of its device, which leads to its view, and a butto
                      ["Front door01800ABC", "Front door", "#/device/01800ABC", false]);
     assert.deepEqual([button.textContent, button.hidden], ["Label …", false]);
     button.click();
-    assert.deepEqual(page.opened, [["device", "01800ABC", page.model.devices.get("01800ABC")]]);
+    assert.deepEqual(page.opened, [["device", "01800ABC", page.model.devices.get("01800ABC"), true]]);
     // A label that is given meanwhile is shown, whatever it contains.
     for (const label of HOSTILE) {
         page.model.devices.get("01800ABC").label = label;
@@ -186,14 +186,33 @@ test("a sender whose telegram did not name its profile can be learned where its 
     const { button } = newest(made);
     assert.deepEqual([button.textContent, button.hidden], ["Learn …", false]);
     button.click();
-    assert.deepEqual(page.opened, [["add", sender.id, page.model.unknown.get(sender.id)]]);
+    assert.deepEqual(page.opened, [["add", sender.id, page.model.unknown.get(sender.id), true]]);
     page.model.take({ ...TAUGHT, id: sender.id, eep: "A5-02-05" }, 0);
     made.paint();
     assert.equal(button.textContent, "Label …");
 });
 
-test("no result moves while the pointer is on the list", () => {
+test("the list is at its newest result when a window is opened, and when a result comes", () => {
     const { made, page } = card();
+    const list = byId("teach-list");
+    const isAtTop = () => {
+        made.paint();
+        const { scrollTop } = list;
+        list.scrollTop = 100;
+        return scrollTop === 0;
+    };
+    page.model.take(TAUGHT, 0);
+    assert.deepEqual([isAtTop(), isAtTop()], [true, false]);
+    page.model.take({ ...TAUGHT, id: "01800AC1" }, 0);
+    assert.deepEqual([isAtTop(), isAtTop()], [true, false]);
+    byId("teach-open").click();
+    assert.deepEqual([isAtTop(), isAtTop()], [true, false]);
+});
+
+test("no result moves while the pointer is on the list, and a button says how many are missing", () => {
+    const { made, page } = card();
+    const missing = () => byId("teach-new").hidden ? "" : byId("teach-new").textContent;
+    page.painter.paintNow = () => made.paint();
     page.model.take(TAUGHT, 0);
     made.paint();
     const list = byId("teach-rows");
@@ -201,35 +220,31 @@ test("no result moves while the pointer is on the list", () => {
     page.model.take({ ...TAUGHT, id: "01800AC1" }, 0);
     made.paint();
     assert.deepEqual(list.children.map(row => row.children[1].textContent), ["(no label)01800ABC"]);
-    delete list.matches;
+    assert.equal(missing(), "Show the new result");
+    byId("teach-list").scrollTop = 100;
+    page.model.take({ ...TAUGHT, id: "01800AC2" }, 0);
     made.paint();
+    assert.deepEqual([missing(), byId("teach-list").scrollTop], ["Show 2 new results", 100]);
+    delete list.matches;
+    byId("teach-new").click();
     assert.deepEqual(list.children.map(row => row.children[1].textContent),
-                     ["(no label)01800AC1", "(no label)01800ABC"]);
+                     ["(no label)01800AC2", "(no label)01800AC1", "(no label)01800ABC"]);
+    assert.deepEqual([missing(), byId("teach-list").scrollTop], ["", 0]);
 });
 
-test("after a window has closed, the usual kind of device is chosen again", async () => {
+test("after a window has closed, the same kind of device is chosen for the next one", async () => {
     const { made } = card();
-    const chosen = () => {
-        made.paint();
-        return ["on", "answer", "as"].filter(name => byId(`teach-${name}`).checked).join();
-    };
     byId("teach-on").checked = false;
     byId("teach-profile").enterValue("F6-03-01");
-    byId("teach-open").click();
-    assert.equal(chosen(), "as");
-    made.takeLine(OPEN, 1000);
-    assert.equal(chosen(), "as");
-    windows()[0].resolve();
-    await settle();
-    assert.equal(chosen(), "on");
-    assert.deepEqual(made.openingOrder(), ["learn", "on"]);
-    // The window of a gateway that is left is closed, too.
-    [byId("teach-on").checked, byId("teach-answer").checked] = [false, true];
-    byId("teach-open").click();
-    made.takeLine(OPEN, 1000);
-    assert.equal(chosen(), "answer");
-    made.clear();
-    assert.equal(chosen(), "on");
+    for (const end of [() => windows().at(-1).resolve(), () => made.clear()]) {
+        byId("teach-open").click();
+        made.takeLine(OPEN, 1000);
+        end();
+        await settle();
+        made.paint();
+        assert.deepEqual(["on", "answer", "as"].filter(name => byId(`teach-${name}`).checked), ["as"]);
+        assert.deepEqual(made.openingOrder(), ["learn", "as", "F6-03-01"]);
+    }
 });
 
 test("a window that cannot be opened leaves the choice", async () => {

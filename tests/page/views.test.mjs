@@ -53,9 +53,16 @@ test("the list has the devices of the state that the address names, and says how
                 .map(({ dataset }) => dataset.state), [state]);
         assert.equal(byId("devices-none").hidden, ids.length > 0);
         assert.equal(byId("devices-table").hidden, ids.length === 0);
+        if (part === "silent")
+            assert.equal(text("devices-none-title"), "No device is silent");
     }
     assert.deepEqual(states.map(({ textContent }) => textContent), ["2", "0", "1", "1"]);
-    assert.deepEqual([text("devices-none-title"), byId("devices-none-add").hidden], ["No device matches", true]);
+    // There are such devices, but none with this text.
+    for (const part of ["weak", "silent"]) {
+        Object.assign(page, { part, query: "zz", groups: { ...page.groups, silent: page.groups.all } });
+        section.paint();
+        assert.deepEqual([text("devices-none-title"), byId("devices-none-add").hidden], ["No device matches", true]);
+    }
     section.rows.clear();
     assert.equal(byId("devices-rows").children.length, 0);
 });
@@ -170,12 +177,17 @@ test("the age of the last telegram fits the packets below it, also if they had n
     const age = part => {
         page.part = part;
         section.paint();
-        return [text("device-age"), byId("device-log").hidden];
+        return [text("device-age"), byId("device-log").hidden, byId("device-unheard").hidden];
     };
-    assert.deepEqual(age("01800A03"), ["last telegram: earlier", false]);
-    assert.deepEqual(age("01800A04"), ["last telegram: none known", true]);
+    assert.deepEqual(age("01800A03"), ["last telegram: earlier", false, true]);
+    // Nothing was heard of it: the view says what to do.
+    assert.deepEqual(age("01800A04"), ["last telegram: none known", true, false]);
     page.model.take({ ...PACKET, id: "01800A03", why: "wrong_kind" }, Date.now());
-    assert.deepEqual(age("01800A03"), ["last telegram: 0 s ago", false]);
+    assert.deepEqual(age("01800A03"), ["last telegram: 0 s ago", false, true]);
+    // Its reading is recorded, but not its time.
+    const readings = [{ name: "CO", word: "open" }];
+    page.model.takeRecorded([{ ...DEVICE, id: "01800A04", seen: null, dbm: null, readings }]);
+    assert.deepEqual(age("01800A04"), ["last telegram: earlier", true, true]);
 });
 
 test("a device that is not learned is reported once the devices are known", () => {
@@ -231,6 +243,17 @@ test("packets have the readings of learned devices, and only the newest are show
     assert.deepEqual(shown(), ["its length does not fit its profile", "Output 100 %", "decoded"]);
 });
 
+test("only with a pointer the section of the packets says that the list stands still", () => {
+    const section = new PacketsSection(page);
+    const { matchMedia } = globalThis;
+    for (const [matches, wanted] of [[true, ""], [false, " The list stands still while the pointer is on it."]]) {
+        globalThis.matchMedia = query => ({ matches: matches && query === "(pointer: coarse)" });
+        section.paint();
+        assert.equal(text("packets-note"), `The last 2 packets are shown, of the last 500.${wanted}`);
+    }
+    globalThis.matchMedia = matchMedia;
+});
+
 test("the label of a device in the packets leads to its view, and a sender that is not learned has no link", () => {
     byId("packets-rows").replaceChildren();
     const section = new PacketsSection(page);
@@ -269,7 +292,9 @@ test("a backup is written as root, and its path and the number of devices are sh
     assert.deepEqual(shown(), ["…", true]);
     command.resolve("/var/backups/enogate/hall-2026-12-01.tar.gz: 3 devices\n");
     await settle();
-    assert.deepEqual(shown(), ["Backup written: /var/backups/enogate/hall-2026-12-01.tar.gz: 3 devices", false]);
+    assert.deepEqual(shown(), ["Backup written: /var/backups/enogate/hall-2026-12-01.tar.gz: 3 devices. It is on " +
+                               "this computer: keep a copy elsewhere.", false]);
+    assert.ok(byId("gateway-note").isScrolledTo);
     assert.deepEqual(complaints, ["", ""]);
 });
 
@@ -282,7 +307,8 @@ test("a backup that fails is an error of the page, and can be tried again", asyn
     button.click();
     started("enogatectl", "hall", "backup").at(-1).resolve("done\n");
     await settle();
-    assert.deepEqual([shown(), complaints.at(-1)], [["Backup written: done", false], ""]);
+    assert.deepEqual([shown()[1], complaints.at(-1)], [false, ""]);
+    assert.match(shown()[0], /^Backup written: done\. It is on this computer/);
 });
 
 test("a backup needs administrative rights, and its end is not shown at another gateway", async () => {

@@ -40,6 +40,7 @@ export class AddSection {
         this.teach.clear();
     }
 
+    /** Shows the senders. Returns how many the search hides, if it hides all of them. */
     paint() {
         const { model, query } = this.page;
         this.teach.paint();
@@ -47,6 +48,7 @@ export class AddSection {
         const found = this.sorting.sorted(matchingSenders(model.unknown, query));
         this.rows.fill(found.slice(0, MAX_SHOWN_ROWS), find);
         setText(byId("unknown-note"), this.note(model));
+        return found.length ? 0 : model.unknown.size;
     }
 
     note({ hasPackets, unknown, unknownLeftOut }) {

@@ -1,8 +1,13 @@
 // What has become of the last order to a device. The gateway sends a packet only once, and does not know whether the
 // device receives it: only a telegram of the device shows that.
 
+import { _ } from "./cockpit.js";
 import { ALL_CHANNELS } from "./orders.js";
 import { TABLES } from "./tables.js";
+
+/** What helps if a device did not answer. It may have answered before. */
+export const SILENT_HINT = _("Does it have power? Press again. If it has never obeyed, it has to learn this gateway: " +
+    "open the learn window in Add device, and press the learn button of the actuator.");
 
 /** How long a device may take to report after an order, in ms. After a stop, a blind need not report anything. */
 export const answerTimeout = ([verb]) => verb === "stop" ? Infinity : 1000 * TABLES.reportSeconds[verb];

@@ -1,7 +1,7 @@
 // The buttons of an actuator, and what has become of the last order.
 
 import { addressOf } from "./address.js";
-import { orderStateOf } from "./answers.js";
+import { orderStateOf, SILENT_HINT } from "./answers.js";
 import { _, format } from "./cockpit.js";
 import { button, element, setOptions, setText } from "./dom.js";
 import { ALL_CHANNELS } from "./orders.js";
@@ -9,7 +9,6 @@ import { ALL_CHANNELS } from "./orders.js";
 const STATE_TEXTS = new Map([
     ["sending", "…"], ["sent", _("sent …")], ["answered", _("✓ answered")], ["silent", _("no answer")],
 ]);
-const SILENT_HINT = _("The order was sent, but the device has reported nothing. Has it learned this gateway?");
 
 const buttonGroup = (...buttons) => element("span", { className: "group", role: "group" }, ...buttons);
 

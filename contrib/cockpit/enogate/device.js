@@ -5,6 +5,7 @@ import { Controls } from "./controls.js";
 import { lastHeardText } from "./devices.js";
 import { byId, Rows, setText, showText } from "./dom.js";
 import { EditDialog } from "./edit.js";
+import { wasHeard } from "./model.js";
 import { PacketRow } from "./packets.js";
 import { detailReadingChips, readingTiles, setSignal } from "./readings.js";
 import * as words from "./words.js";
@@ -52,6 +53,7 @@ export class DeviceSection {
         setText(byId("device-id"), this.id);
         setText(byId("device-age"), format(_("last telegram: $0"), lastHeardText(device, now)));
         byId("device-age").classList.toggle("warn", this.page.isQuiet(device));
+        byId("device-unheard").hidden = wasHeard(device);
         setSignal(byId("device-signal"), device.dbm);
         this.readings.forEach(readings => readings.show(device));
         this.controls?.fill(device, now);

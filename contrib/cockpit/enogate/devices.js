@@ -5,7 +5,7 @@ import { _, format } from "./cockpit.js";
 import { Controls } from "./controls.js";
 import { byId, element, Rows, rowWithCells, setText, showText } from "./dom.js";
 import { withHeadings } from "./grouping.js";
-import { lastHeardTime, MAX_DEVICES } from "./model.js";
+import { lastHeardTime, MAX_DEVICES, wasHeard } from "./model.js";
 import { readingChips, setSignal } from "./readings.js";
 import { compareTexts, Sorting } from "./sorting.js";
 import * as words from "./words.js";
@@ -13,12 +13,12 @@ import * as words from "./words.js";
 // The browser stores whether the devices are grouped.
 const STORED_GROUPING = "enogate-grouping";
 
-/** How two devices are sorted by a column. Devices without a value come last. */
+/** How two devices are sorted by a column: the weakest signal comes first. Devices without a value come last. */
 export const COLUMNS = new Map([
     ["label", ([, a], [, b]) => compareTexts(a.label || "~", b.label || "~")],
     ["id", ([a], [b]) => compareTexts(a, b)],
     ["profile", ([, a], [, b]) => compareTexts(a.eep, b.eep)],
-    ["signal", ([, a], [, b]) => (b.dbm ?? -Infinity) - (a.dbm ?? -Infinity) || 0],
+    ["signal", ([, a], [, b]) => (a.dbm ?? Infinity) - (b.dbm ?? Infinity) || 0],
     ["received", ([, a], [, b]) => (lastHeardTime(b) ?? 0) - (lastHeardTime(a) ?? 0)],
 ]);
 
@@ -27,10 +27,8 @@ export const matchingDevices = (devices, text) =>
     [...devices].filter(([id, { label, eep }]) => words.hasText(text, id, label, words.profileWithKind(eep)));
 
 /** How long ago a device was heard. */
-export function lastHeardText(device, now) {
-    const time = lastHeardTime(device);
-    return time !== null || device.readings.size || device.hasSent ? words.ageText(time, now) : _("none known");
-}
+export const lastHeardText = (device, now) =>
+    wasHeard(device) ? words.ageText(lastHeardTime(device), now) : _("none known");
 
 export class DevicesSection {
     constructor(page) {
@@ -48,6 +46,7 @@ export class DevicesSection {
         this.sorting = new Sorting(COLUMNS, byId("devices-sort"), headings, () => page.painter.paintNow());
     }
 
+    /** Shows the devices. Returns how many the search hides, if it hides all of them. */
     paint() {
         const { model, groups, part, query } = this.page;
         for (const link of this.states) {
@@ -62,8 +61,10 @@ export class DevicesSection {
         byId("devices-none").hidden = !isEmpty;
         byId("devices-none-add").hidden = model.devices.size > 0;
         const none = model.areDevicesKnown ? _("No device is learned yet") : _("The devices are not known yet");
-        setText(byId("devices-none-title"), model.devices.size ? _("No device matches") : none);
+        const noMatch = part === "silent" && !groups.silent.length ? _("No device is silent") : _("No device matches");
+        setText(byId("devices-none-title"), model.devices.size ? noMatch : none);
         showText(byId("devices-note"), this.note(model));
+        return found.length ? 0 : groups[part || "all"].length;
     }
 
     note(model) {

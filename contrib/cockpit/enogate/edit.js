@@ -1,7 +1,7 @@
 // The dialog that changes the profile and the label of a device, replaces the device, or removes it.
 
 import { addressOf } from "./address.js";
-import { _ } from "./cockpit.js";
+import { _, format } from "./cockpit.js";
 import { button, byId, element, onEnter, Rows, setText } from "./dom.js";
 import { LabelField } from "./label.js";
 import { acceptedId, canHaveProfile, changeDevice, setProfiles } from "./learn.js";
@@ -25,7 +25,8 @@ export class EditDialog {
         byId("edit-swap").addEventListener("click", () => this.replace());
     }
 
-    open(id, { label, eep, misfit }) {
+    /** Opens the dialog of a device; to enter a label, the focus is in the field for it. */
+    open(id, { label, eep, misfit }, isForLabel = false) {
         Object.assign(this, { id, eep, label });
         setText(byId("edit-id"), id);
         const fitFirst = [...words.PROFILES.keys()].sort((a, b) => b.startsWith(misfit) - a.startsWith(misfit));
@@ -37,6 +38,8 @@ export class EditDialog {
         this.showPart("");
         this.enableButtons(this.page.canOrderNow);
         this.dialog.showModal();
+        if (isForLabel)
+            this.field.input.focus();
     }
 
     /** Shows what has to be known before the device is removed or replaced, or nothing. */
@@ -65,6 +68,13 @@ export class EditDialog {
         if (id === null || byId("edit-swap").disabled)
             return;
         const { page } = this;
+        const other = page.model.devices.get(id);
+        // A device with this profile and no other label may be one whose replacement was interrupted.
+        if (other && (other.eep !== this.eep || !["", this.label].includes(other.label))) {
+            const text = _("$0 is already learned: $1. Choose another device, or remove $1 first.");
+            setText(byId("edit-result"), format(text, id, other.label || words.kindOfProfile(other.eep) || other.eep));
+            return;
+        }
         this.closeAfter(page.runCommand(replaceCommand(page.gateway, this.id, id)), addressOf("device", id));
     }
 

@@ -1,9 +1,9 @@
 // What is all right, and what needs attention. Nothing here touches the page.
 
-import { orderStateOf } from "./answers.js";
+import { orderStateOf, SILENT_HINT } from "./answers.js";
 import { addressOf } from "./address.js";
 import { _, format, N_, ngettext } from "./cockpit.js";
-import { lastHeardTime } from "./model.js";
+import { lastHeardTime, wasHeard } from "./model.js";
 import { baseFault, gatewayFault } from "./places.js";
 import * as words from "./words.js";
 
@@ -25,6 +25,7 @@ export function devicesByState({ devices, opened }, sent, now, minutes) {
     const isSilent = new Set(silent.map(([id]) => id));
     return {
         all, silent,
+        unheard: all.filter(([id, device]) => !wasHeard(device) && !isSilent.has(id)),
         heard: all.filter(([id, device]) => lastHeardTime(device) !== null && !isSilent.has(id)),
         weak: all.filter(([, { dbm }]) => signalBars(dbm) === 1),
         misfit: all.filter(([, { misfit }]) => misfit),
@@ -34,11 +35,11 @@ export function devicesByState({ devices, opened }, sent, now, minutes) {
 }
 
 /** How many devices were heard, in a sentence. */
-export function heardSentence({ all: { length: count }, heard, silent }, { areDevicesKnown }, minutes) {
+export function heardSentence({ all: { length: count }, heard, silent, unheard }, { areDevicesKnown }, minutes) {
     if (!count)
         return areDevicesKnown ? _("No device is learned yet.") : _("The devices are not known yet.");
-    const unknown = count - heard.length - silent.length;
-    const time = minutes % 60 ? `${minutes} min` : `${minutes / 60} h`;
+    const unknown = count - heard.length - silent.length - unheard.length;
+    const time = minutes < 60 ? `${words.decimalText(minutes)} min` : `${words.decimalText(minutes / 60)} h`;
     const [ofAll, ofSome, withUnknown] = Number.isFinite(minutes)
         ? [ngettext("The device was heard in the last $2.", "All $1 devices were heard in the last $2.", count),
            _("$0 of $1 devices were heard in the last $2."),
@@ -46,7 +47,9 @@ export function heardSentence({ all: { length: count }, heard, silent }, { areDe
         : [ngettext("The device was heard.", "All $1 devices were heard.", count), _("$0 of $1 devices were heard."),
            _("$0 of $1 devices were heard; for $3 this is not known yet.")];
     const message = heard.length === count ? ofAll : unknown ? withUnknown : ofSome;
-    return format(message, heard.length, count, time, unknown);
+    const never = ngettext("$0 device was never heard.", "$0 devices were never heard.", unheard.length);
+    return [format(message, heard.length, count, time, unknown), unheard.length && format(never, unheard.length)]
+            .filter(Boolean).join(" ");
 }
 
 const nameOf = ([id, { label }]) => label || id;
@@ -104,11 +107,10 @@ export function findProblems({ groups, now, ...facts }) {
         : format(_("$0 was last heard $1"), name, words.ageText(lastHeardTime(device), now));
     const found = gatewayProblems(facts);
     const isBroken = found.some(({ level }) => level === "bad");
-    const untaught = _("Has it learned this gateway? If not, open the learn window, and press its learn button.");
-    found.push(...deviceProblems(groups.unanswered, "actuators", untaught,
+    found.push(...deviceProblems(groups.unanswered, "actuators", SILENT_HINT,
                                  name => format(_("$0 did not answer an order"), name), count =>
         ngettext("$0 device did not answer an order", "$0 devices did not answer an order", count)),
-               ...deviceProblems(groups.misfit, "misfit", _("Choose another profile: Show, and then Edit …."),
+               ...deviceProblems(groups.misfit, "misfit", _("Press Show, then Edit, and choose another profile."),
                                  name => format(_("The last telegram of $0 does not fit its profile"), name), count =>
         ngettext("The last telegram of $0 device does not fit its profile",
                  "The last telegrams of $0 devices do not fit their profiles", count)),

@@ -3,7 +3,7 @@
 import { _, format } from "./cockpit.js";
 import { acceptField, byId, onEnter, setOptions, setText, showText } from "./dom.js";
 import { LabelField } from "./label.js";
-import { idIn, labelOrder, reasonOf } from "./orders.js";
+import { idCharacters, idIn, labelOrder, reasonOf } from "./orders.js";
 import * as words from "./words.js";
 
 /** Whether a sender can have this profile. A teach-in query (UTE) may ask for any kind. */
@@ -20,15 +20,17 @@ export function setProfiles(select, profiles, selected) {
     setOptions(select, first ? options : [["", _("Choose the profile …")], ...options], first);
 }
 
-const ID_RULE = _("Enter the 8 hexadecimal digits of its ID.");
+const ID_RULE = _("The ID has 8 characters (0-9, A-F).");
+const WRONG_LENGTH = _("The ID has 8 characters (0-9, A-F); this one has $0.");
 const PROFILE_RULE = _("Choose the profile: the data sheet of the device names it.");
 // A sender that was not heard may have any profile.
 const UNHEARD = { rorg: "", eep: null };
 
 /** The ID in a field; null if there is none, and the browser then says so. */
 export function acceptedId(field) {
-    const id = idIn(field.value);
-    return acceptField(field, id ? "" : ID_RULE) ? id : null;
+    const [id, { length }] = [idIn(field.value), idCharacters(field.value)];
+    const why = length && length !== 8 ? format(WRONG_LENGTH, length) : ID_RULE;
+    return acceptField(field, id ? "" : why) ? id : null;
 }
 
 /**
@@ -48,25 +50,36 @@ export class LearnDialog {
     constructor(page) {
         // The sender that was heard, and the device that the dialog has learned, if there is one.
         Object.assign(this, { page, heard: null, learned: null, dialog: byId("learn"), idField: byId("learn-new") });
-        Object.assign(this, { sender: UNHEARD, selectedFor: null, profile: byId("learn-profile") });
-        this.profile.addEventListener("change", () => this.enable(this.profile.value));
+        // The device that the dialog may change: a learned one for which it was opened, or that it has learned itself.
+        Object.assign(this, { sender: UNHEARD, own: null, profile: byId("learn-profile") });
         this.field = new LabelField("learn", this, () => this.learn());
         onEnter(this.idField, () => this.learn());
         byId("learn-go").addEventListener("click", () => this.learn());
         byId("learn-by-id").addEventListener("click", () => this.open(null, UNHEARD));
         this.dialog.addEventListener("input", () => this.enable());
+        this.profile.addEventListener("change", () => this.enable());
     }
 
     get id() {
         return this.heard ?? idIn(this.idField.value);
     }
 
+    /** Why the ID is refused: it is that of another device, which is learned. Empty if there is no such reason. */
+    get refusal() {
+        const device = this.id !== this.own && this.page.model.devices.get(this.id);
+        const text = _("$0 is already learned: $1. Correct the ID, or use Edit.");
+        return device ? format(text, this.id, words.labelAndKind(device)) : "";
+    }
+
     /** Opens the dialog for a sender that was heard, or without its ID: then it is entered. */
     open(id, sender) {
-        Object.assign(this, { heard: id, sender, chosen: null, selectedFor: "" });
+        const device = this.page.model.devices.get(id);
+        Object.assign(this, { heard: id, own: device ? id : null, sender });
         setText(byId("learn-id"), id ?? "");
         byId("learn-sender").hidden = id !== null;
         this.idField.value = "";
+        const likely = sender.eep ?? (sender.rorg === "F6" ? words.USUAL_SWITCH : "");
+        setProfiles(this.profile, profilesFor(sender), device?.eep ?? likely);
         setText(byId("learn-result"), "");
         this.field.reset("");
         this.enable();
@@ -74,39 +87,25 @@ export class LearnDialog {
         this.paint();
     }
 
-    /** Selects the profile of a learned device when its ID is entered. After that, only a choice changes it. */
-    selectProfile() {
-        const { id, selectedFor, sender, page: { model: { devices } } } = this;
-        if (id === selectedFor || !devices.has(id) && selectedFor === null)
-            return;
-        this.selectedFor = devices.has(id) ? id : null;
-        const likely = this.chosen ?? sender.eep ?? (sender.rorg === "F6" ? words.USUAL_SWITCH : "");
-        setProfiles(this.profile, profilesFor(sender), devices.get(id)?.eep ?? likely);
-    }
-
     /** A device that was learned can be learned again, with another profile or label, after the answer to an order. */
-    enable(chosen = this.chosen) {
-        Object.assign(this, { learned: null, chosen });
+    enable() {
+        Object.assign(this, { learned: null, own: this.id === this.own ? this.own : null });
         if (byId("learn-result").textContent === "…")
             return;
-        this.selectProfile();
         byId("learn-hint").hidden = true;
-        const known = this.heard === null && this.page.model.devices.get(this.id);
-        const text = _("$0 is learned already ($1). It gets the profile that you choose.");
-        setText(byId("learn-result"), known ? format(text, known.label || this.id, known.eep) : "");
-        byId("learn-go").disabled = !this.page.canOrderNow;
+        setText(byId("learn-result"), this.refusal);
+        byId("learn-go").disabled = !this.page.canOrderNow || this.refusal !== "";
     }
 
     async learn() {
-        this.selectProfile();
         const id = this.heard ?? acceptedId(this.idField);
         const eep = id && acceptField(this.profile, this.profile.value ? "" : PROFILE_RULE) && this.profile.value;
         const label = eep ? this.field.label() : null;
-        if (label === null || byId("learn-go").disabled)
+        if (label === null || byId("learn-go").disabled || this.refusal)
             return;
         byId("learn-go").disabled = true;
         setText(byId("learn-result"), "…");
-        this.selectedFor = id;
+        this.own = id;
         const why = await reasonOf(changeDevice(this.page, { id, label: "" }, eep, label));
         byId("learn-go").disabled = !why;
         const done = _("Learned. Press the button of the device again to see its first reading.");
@@ -124,7 +123,7 @@ export class LearnDialog {
         const { rorg, received, count } = unknown.get(this.heard) ?? this.sender;
         showText(byId("learn-heard"), !count || devices.has(this.id) ? ""
             : `${words.kindText(rorg)}, ${words.ageText(received, Date.now())}, ${count} ×`);
-        if (devices.has(this.id) && this.id !== this.selectedFor)
+        if (this.refusal)
             this.enable();
         const device = devices.get(this.learned);
         if (device?.readings.size)

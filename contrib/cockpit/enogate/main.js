@@ -3,7 +3,7 @@
 import { AddSection } from "./add.js";
 import { addressOf, viewOf } from "./address.js";
 import { startedOrder } from "./answers.js";
-import { _, cockpit, format } from "./cockpit.js";
+import { _, cockpit, format, ngettext } from "./cockpit.js";
 import * as commands from "./commands.js";
 import { DeviceSection } from "./device.js";
 import { DevicesSection } from "./devices.js";
@@ -28,10 +28,10 @@ const START_TIME = 60000;
 const NO_RIGHTS = _("You can look, but not change anything. Turn on administrative access in Cockpit, or ask an " +
     "administrator to add you to the group enogate.");
 const NO_LINES = _("You can see nothing, since the lines cannot be read. Turn on administrative access in Cockpit.");
-const FEED_TEXTS = { reading: _("reading"), live: _("live"), lost: _("lost"), waiting: _("waiting") };
-// The browser stores after how many minutes a device is silent, and the gateway, also that of each window.
-const [STORED_MINUTES, STORED_GATEWAY] = ["enogate-quiet-minutes", "enogate-gateway"];
-const DEFAULT_SILENT_MINUTES = 24 * 60;
+const FEED_TEXTS = { reading: _("reading"), live: _("live"), lost: _("lost") };
+// The browser stores after how many hours a device is silent, and the gateway, also that of each window.
+const [STORED_HOURS, STORED_GATEWAY] = ["enogate-silent-hours", "enogate-gateway"];
+const DEFAULT_SILENT_HOURS = "24";
 // The tab of a view that has none of its own.
 const TAB_OF_VIEW = new Map([["device", "devices"], ["groups", "devices"]]);
 
@@ -46,10 +46,11 @@ function leave(section) {
 
 class Page {
     constructor() {
-        Object.assign(this, { gateway: null, feed: null, unanswered: "", query: "", section: "overview", part: "" });
+        Object.assign(this, { gateway: null, feed: null, query: "", section: "overview", part: "" });
         Object.assign(this, { gateways: [], searchTimer: null });
         this.rights = new Rights(() => this.rightsChanged());
-        this.minutes = Number(localStorage.getItem(STORED_MINUTES) ?? DEFAULT_SILENT_MINUTES) || Infinity;
+        byId("devices-quiet").value = localStorage.getItem(STORED_HOURS) ?? DEFAULT_SILENT_HOURS;
+        this.minutes = 60 * Number(byId("devices-quiet").value) || Infinity;
         this.resetGateway();
         this.painter = new Painter(() => this.paint());
         this.sections = {
@@ -86,8 +87,8 @@ class Page {
         byId("problem-close").addEventListener("click", () => this.showError(""));
         byId("trouble-help").addEventListener("click", ({ target }) => this.fixProblem(target.dataset.action, target));
         byId("search").addEventListener("input", () => this.search(byId("search").value));
-        byId("devices-quiet").value = String(Number.isFinite(this.minutes) ? this.minutes : 0);
-        byId("devices-quiet").addEventListener("input", () => this.setMinutes(byId("devices-quiet").value));
+        byId("hidden-clear").addEventListener("click", () => this.search(byId("search").value = ""));
+        byId("devices-quiet").addEventListener("input", () => this.setHours(byId("devices-quiet").value));
         addEventListener("hashchange", () => this.openAddress(location.hash));
         // A click on a tab shows its section at once: the event of the new address comes later.
         for (const tab of document.querySelectorAll("#sections a"))
@@ -129,10 +130,10 @@ class Page {
         this.painter.paintNow();
     }
 
-    /** Sets after how many minutes a device is silent. */
-    setMinutes(text) {
-        localStorage.setItem(STORED_MINUTES, text);
-        this.minutes = Number(text) || Infinity;
+    /** Sets after how many hours a device is silent. */
+    setHours(text) {
+        localStorage.setItem(STORED_HOURS, text);
+        this.minutes = 60 * Number(text) || Infinity;
         this.painter.paintNow();
     }
 
@@ -263,11 +264,13 @@ class Page {
         this.painter.paintNow();
     }
 
-    /** Starts or restarts the service. @param {"start"|"restart"} verb */
+    /** Starts or restarts the service. Returns why this failed; empty if it did not. @param {"start"|"restart"} verb */
     async controlService(verb, pressed) {
         pressed.disabled = true;
-        this.showError(await reasonOf(commands.controlService(this.gateway, verb)));
+        const why = await reasonOf(commands.controlService(this.gateway, verb));
+        this.showError(why);
         await this.checkGateway();
+        return why;
     }
 
     /** Whether this user may use the button of a problem. */
@@ -321,15 +324,9 @@ class Page {
             this.baseRun = null;
     }
 
-    /** Gives an order that nobody has asked for, and returns its error, which is shown until the gateway answers. */
+    /** Gives an order that nobody has asked for. Returns its error, which is not shown: the gateway may be starting. */
     async giveInBackground(order) {
-        if (!this.mayOrder || this.gateway === null)
-            return "";
-        const before = this.unanswered;
-        this.unanswered = await this.orderError(order);
-        if (this.unanswered || byId("problem-text").textContent === before)
-            this.showError(this.unanswered);
-        return this.unanswered;
+        return this.mayOrder && this.gateway !== null ? this.orderError(order) : "";
     }
 
     /** Why an order failed; empty if it did not. */
@@ -349,7 +346,10 @@ class Page {
         this.paintHead();
         setText(byId("device-count"), String(model.devices.size || ""));
         setText(byId("unknown-count"), `${model.unknown.size || ""}${model.unknownLeftOut ? "+" : ""}`);
-        this.sections[this.section].paint();
+        const count = this.sections[this.section].paint() ?? 0;
+        const hidden = ngettext("$0 entry is hidden by the search.", "$0 entries are hidden by the search.", count);
+        byId("hidden").hidden = !count;
+        setText(byId("hidden-text"), format(hidden, count));
         [this.sections.add.dialog, this.sections.device.dialog, this.setup].forEach(dialog => dialog.paint());
     }
 
@@ -370,9 +370,8 @@ class Page {
         byId("trouble-help").dataset.action = wrong?.action ?? "";
         setText(byId("trouble-help"), wrong ? _(wrong.action) : "");
         byId("trouble-help").disabled = !wrong || !this.mayUseFix(wrong.action);
-        const state = feedState.state === "live" && stopped ? "waiting" : feedState.state;
-        showText(byId("feed"), this.gateway === null ? "" : FEED_TEXTS[state]);
-        byId("feed").dataset.state = state;
+        showText(byId("feed"), this.gateway === null ? "" : stopped?.word ?? FEED_TEXTS[feedState.state]);
+        byId("feed").dataset.state = stopped ? "stopped" : feedState.state;
     }
 }
 

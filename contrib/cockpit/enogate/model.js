@@ -84,6 +84,9 @@ function takeTelegram(device, { dbm, why, rorg }, now) {
 /** The time of the last telegram of a device in ms; null if it is not known. */
 export const lastHeardTime = ({ received, recorded }) => received ?? recorded;
 
+/** Whether a telegram of a device is known, with or without its time. */
+export const wasHeard = device => lastHeardTime(device) !== null || device.readings.size > 0 || device.hasSent;
+
 export class Model {
     /** @param {number} opened - when the page was opened, in ms */
     constructor(opened) {

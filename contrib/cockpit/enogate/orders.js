@@ -37,11 +37,11 @@ export function wholeNumberIn(text, greatest) {
     return /^[0-9]{1,3}$/.test(text) && number <= greatest ? number : null;
 }
 
-/** The ID in a field, with or without marks between its digits; null if there is none. */
-export function idIn(text) {
-    const digits = text.replace(/^\s*0x|[\s:.-]/gi, "").toUpperCase();
-    return /^[0-9A-F]{8}$/.test(digits) ? digits : null;
-}
+/** The characters of an ID in a field, without marks between them. */
+export const idCharacters = text => text.replace(/^\s*0x|[\s:.-]/gi, "").toUpperCase();
+
+/** The ID in a field; null if there is none. */
+export const idIn = text => idCharacters(text).match(/^[0-9A-F]{8}$/)?.[0] ?? null;
 
 /**
  * Why a command failed, in a sentence.

@@ -20,26 +20,37 @@ export const reportedBase = ({ base, baseTime }, now) =>
 
 export class OverviewSection {
     constructor(page) {
-        Object.assign(this, { page, backup: {} });
+        // What a button has done, and for which gateway.
+        Object.assign(this, { page, done: {} });
         this.rows = new Rows(byId("attention"), (key, problem) => new ProblemRow(problem, page));
-        byId("gateway-refresh").addEventListener("click", () => page.refresh());
-        byId("gateway-restart").addEventListener("click", ({ target }) => page.controlService("restart", target));
+        byId("gateway-refresh").addEventListener("click", ({ target }) => page.giveByButton(["list"], target));
+        byId("gateway-restart").addEventListener("click", ({ target }) => this.restart(target));
         byId("gateway-backup").addEventListener("click", () => this.backUp());
         byId("gateway-journal").addEventListener("click", () => openService(page.gateway));
+    }
+
+    /** Restarts the service, and shows when. */
+    async restart(pressed) {
+        const { page, page: { gateway } } = this;
+        const why = await page.controlService("restart", pressed);
+        this.done = { gateway, output: why ? "" : format(_("Restarted at $0."), words.timeText(Date.now())) };
+        page.painter.paintNow();
     }
 
     /** Writes a backup, and shows where. Only root and the user of the gateway may write there, and not its group. */
     backUp() {
         const { page, page: { gateway } } = this;
         const show = (output, error) => {
-            this.backup = { gateway, output };
+            this.done = { gateway, output };
             if (gateway === page.gateway)
                 page.showError(error);
             page.painter.paintNow();
+            byId("gateway-note").scrollIntoView({ block: "nearest" });
         };
+        const written = _("Backup written: $0. It is on this computer: keep a copy elsewhere.");
         show("…", "");
         runCommand(backupCommand(gateway), "root").then(
-            output => show(format(_("Backup written: $0"), output.trim()), ""), error => show("", failureText(error)));
+            output => show(format(written, output.trim()), ""), error => show("", failureText(error)));
     }
 
     paint() {
@@ -70,7 +81,7 @@ export class OverviewSection {
         this.showFact("module", reportedBase(model, now), set && model.baseTime !== null ? model.base === set : null);
         this.showFact("window", model.mode === null ? UNKNOWN_TEXT : words.modeText(model.mode), null);
         byId("gateway-restart").disabled = !rights.isAdmin;
-        const note = this.backup.gateway === this.page.gateway ? this.backup.output : "";
+        const note = this.done.gateway === this.page.gateway ? this.done.output : "";
         setText(byId("gateway-note"), note || (rights.permission.allowed === false ? NEEDS_ADMIN : ""));
         byId("gateway-backup").disabled = !rights.isAdmin || note === "…";
         byId("gateway-refresh").disabled = !canOrderNow;

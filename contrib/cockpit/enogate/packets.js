@@ -35,12 +35,14 @@ export class PacketsSection {
             this.togglePause();
     }
 
+    /** Shows the packets. Returns how many the search hides, if it hides all of them. */
     paint() {
         const { model, query } = this.page;
         const packets = this.paused || model.packets.slice(-MAX_PACKETS);
         const found = matchingPackets(packets, model.devices, query);
         this.rows.fill(found.slice(-MAX_SHOWN_ROWS).map(packet => [packet.number, packet]).reverse());
         setText(byId("packets-note"), this.note(model, found.length));
+        return found.length ? 0 : packets.length;
     }
 
     note({ hasPackets }, count) {
@@ -50,7 +52,8 @@ export class PacketsSection {
         const shown = format(ngettext("The last packet is shown, of the last $1.",
                                       "The last $0 packets are shown, of the last $1.", number), number, MAX_PACKETS);
         const hint = _("The list stands still while the pointer is on it.");
-        return (this.paused ? [_("Paused."), shown] : [shown, hint]).join(" ");
+        const hints = matchMedia("(pointer: coarse)").matches ? [] : [hint];
+        return (this.paused ? [_("Paused."), shown] : [shown, ...hints]).join(" ");
     }
 }
 

@@ -77,17 +77,18 @@ export function runIdOf(states, hasStick) {
 }
 
 /**
- * Why a gateway does not work, and the button that helps; null if it works.
- * @returns {?{text: string, detail: string, action: string}}
+ * Why a gateway does not work, in a sentence and in a word, and the button that helps; null if it works.
+ * @returns {?{text: string, detail: string, action: string, word: string}}
  */
 export function gatewayFault(name, states, hasStick, serial) {
+    const text = format(_("The gateway $0 is stopped"), name);
     if (states && states.ActiveState && states.ActiveState !== "active" && states.ActiveState !== "activating")
-        return { text: format(_("The gateway $0 is stopped"), name), detail: "", action: N_("Start") };
+        return { text, detail: "", action: N_("Start"), word: _("stopped") };
     if (hasStick === false) {
-        return { text: format(_("No stick at $0"), serial), action: N_("Journal"),
+        return { text: format(_("No stick at $0"), serial), action: N_("Journal"), word: _("no stick"),
                  detail: _("Plug it in. The gateway continues by itself.") };
     }
     return states?.SubState !== "auto-restart" ? null
         : { text: format(_("The gateway $0 is restarting"), name), detail: _("The journal has the reason."),
-            action: N_("Journal") };
+            action: N_("Journal"), word: _("restarting") };
 }

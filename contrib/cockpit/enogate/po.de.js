@@ -8,14 +8,19 @@ cockpit.locale({
     ],
     "$0 device has a weak signal": [null, "$0 Gerät hat schwachen Empfang", "$0 Geräte haben schwachen Empfang"],
     "$0 device is silent": [null, "$0 Gerät ist stumm", "$0 Geräte sind stumm"],
+    "$0 device was never heard.": [null, "$0 Gerät wurde noch nie empfangen.", "$0 Geräte wurden noch nie empfangen."],
     "$0 did not answer an order": [null, "$0 hat auf einen Befehl nicht geantwortet"],
+    "$0 entry is hidden by the search.": [null, "Die Suche verbirgt $0 Eintrag.", "Die Suche verbirgt $0 Einträge."],
     "$0 has a weak signal: $1": [null, "$0 hat schwachen Empfang: $1"],
     "$0 has not been heard": [null, "$0 wurde noch nicht empfangen"],
     "$0 has this label, too. Orders then need the ID in place of the label.": [
         null, "Auch $0 hat diese Bezeichnung. Befehle brauchen dann die ID statt der Bezeichnung.",
     ],
-    "$0 is learned already ($1). It gets the profile that you choose.": [
-        null, "$0 ist bereits eingelernt ($1). Das Gerät erhält das Profil, das Sie wählen.",
+    "$0 is already learned: $1. Choose another device, or remove $1 first.": [
+        null, "$0 ist bereits eingelernt: $1. Wählen Sie ein anderes Gerät, oder entfernen Sie zuerst $1.",
+    ],
+    "$0 is already learned: $1. Correct the ID, or use Edit.": [
+        null, "$0 ist bereits eingelernt: $1. Berichtigen Sie die ID, oder nutzen Sie „Bearbeiten“.",
     ],
     "$0 is missing, or you may not read it: only administrators and the group enogate may.": [
         null, "$0 fehlt, oder Sie dürfen es nicht lesen: Das dürfen nur Administratoren und die Gruppe enogate.",
@@ -63,7 +68,9 @@ cockpit.locale({
         null, "BASE ist $0, aber die Basis-ID des Funkmoduls ist $1",
     ],
     "Back up": [null, "Sichern"],
-    "Backup written: $0": [null, "Sicherung geschrieben: $0"],
+    "Backup written: $0. It is on this computer: keep a copy elsewhere.": [
+        null, "Sicherung geschrieben: $0. Sie liegt auf diesem Rechner: Bewahren Sie anderswo eine Kopie auf.",
+    ],
     "Base ID": [null, "Basis-ID"],
     "Base ID of the module": [null, "Basis-ID des Funkmoduls"],
     "Blind control": [null, "Jalousieaktor"],
@@ -72,13 +79,11 @@ cockpit.locale({
     "Carbon dioxide": [null, "CO₂"],
     "Carbon dioxide, humidity and temperature sensor": [null, "CO₂-, Feuchte- und Temperatursensor"],
     "Channel": [null, "Kanal"],
-    "Choose another profile: Show, and then Edit ….": [
-        null, "Wählen Sie ein anderes Profil: Anzeigen, und dann Bearbeiten ….",
-    ],
     "Choose the profile …": [null, "Profil wählen …"],
     "Choose the profile: the data sheet of the device names it.": [
         null, "Wählen Sie das Profil: Das Datenblatt des Geräts nennt es.",
     ],
+    "Clear": [null, "Löschen"],
     "Close": [null, "Schließen"],
     "Contact": [null, "Kontakt"],
     "Continue": [null, "Fortsetzen"],
@@ -92,6 +97,10 @@ cockpit.locale({
     "Dim": [null, "Dimmen"],
     "Dim to": [null, "Dimmen auf"],
     "Dimmer, 1 channel": [null, "Dimmer, 1 Kanal"],
+    "Does it have power? Press again. If it has never obeyed, it has to learn this gateway: open the learn window in Add device, and press the learn button of the actuator.": [
+        null,
+        "Hat es Strom? Drücken Sie noch einmal. Hat es noch nie einen Befehl befolgt, muss es dieses Gateway einlernen: Öffnen Sie das Lernfenster in „Gerät hinzufügen“, und drücken Sie die Lerntaste des Aktors.",
+    ],
     "Down": [null, "Ab"],
     "Edit …": [null, "Bearbeiten …"],
     "Electricity meter": [null, "Stromzähler"],
@@ -102,7 +111,6 @@ cockpit.locale({
     "Energy in Wh": [null, "Energie in Wh"],
     "Energy in Ws": [null, "Energie in Ws"],
     "Enter a whole number from 0 to $0.": [null, "Geben Sie eine ganze Zahl von 0 bis $0 ein."],
-    "Enter the 8 hexadecimal digits of its ID.": [null, "Geben Sie die 8 hexadezimalen Ziffern seiner ID ein."],
     "Error level": [null, "Fehlerstufe"],
     "Everything is all right": [null, "Alles in Ordnung"],
     "Failed": [null, "Fehlgeschlagen"],
@@ -115,15 +123,18 @@ cockpit.locale({
     "Group by the first word of the label": [null, "Nach erstem Wort gruppieren"],
     "Groups": [null, "Gruppen"],
     "Groups of actuators": [null, "Gruppen von Aktoren"],
-    "Has it learned this gateway? If not, open the learn window, and press its learn button.": [
-        null, "Hat es dieses Gateway eingelernt? Falls nicht, öffnen Sie das Lernfenster, und drücken Sie seine Lerntaste.",
-    ],
     "Heard": [null, "Zuletzt"],
     "Heard, but not learned": [null, "Empfangen, aber nicht eingelernt"],
     "Humidity": [null, "Feuchte"],
     "ID": [null, "ID"],
     "ID of the device": [null, "ID des Geräts"],
     "ID of the new device": [null, "ID des neuen Geräts"],
+    "If another ID moves to the top in Add device, correct the ID.": [
+        null, "Kommt in „Gerät hinzufügen“ eine andere ID nach oben, berichtigen Sie die ID.",
+    ],
+    "If nothing comes, it is too far away or has no power.": [
+        null, "Kommt nichts, ist es zu weit entfernt oder ohne Strom.",
+    ],
     "Ignored": [null, "Ignoriert"],
     "Illuminance": [null, "Helligkeit"],
     "It has a learn button.": [null, "Er hat eine Lerntaste."],
@@ -132,7 +143,6 @@ cockpit.locale({
     ],
     "Its manual mentions bidirectional teach-in.": [null, "Die Anleitung nennt bidirektionales Einlernen."],
     "Journal": [null, "Journal"],
-    "Journal and service": [null, "Journal und Dienst"],
     "Label": [null, "Bezeichnung"],
     "Label …": [null, "Bezeichnen …"],
     "Last heard": [null, "Zuletzt empfangen"],
@@ -163,21 +173,25 @@ cockpit.locale({
     "No device is learned": [null, "Kein Gerät ist eingelernt"],
     "No device is learned yet": [null, "Noch ist kein Gerät eingelernt"],
     "No device is learned yet.": [null, "Noch ist kein Gerät eingelernt."],
+    "No device is silent": [null, "Kein Gerät ist stumm"],
     "No device matches": [null, "Kein Gerät passt"],
     "No device with this ID is learned": [null, "Kein Gerät mit dieser ID ist eingelernt"],
     "No fault is known": [null, "Kein Fehler bekannt"],
+    "No free serial port was found. Plug in the stick, and open this dialog again.": [
+        null,
+        "Keine freie serielle Schnittstelle gefunden. Stecken Sie den Stick ein, und öffnen Sie diesen Dialog noch einmal.",
+    ],
     "No gateway is set up on this machine": [null, "Auf diesem Rechner ist kein Gateway eingerichtet"],
     "No packet line has arrived": [null, "Es ist keine Paketzeile eingetroffen"],
     "No packet lines have arrived. If none arrives when you press a button of a device, set EXPLAIN=--explain for this gateway, and restart it.": [
         null,
         "Es sind keine Paketzeilen eingetroffen. Falls auch keine eintrifft, wenn Sie die Taste eines Geräts drücken, setzen Sie EXPLAIN=--explain für dieses Gateway, und starten Sie es neu.",
     ],
-    "No serial port was found. Plug in the stick, and open this dialog again.": [
-        null,
-        "Keine serielle Schnittstelle gefunden. Stecken Sie den Stick ein, und öffnen Sie diesen Dialog noch einmal.",
-    ],
     "No stick at $0": [null, "Kein Stick an $0"],
     "No unknown device of this kind was heard yet.": [null, "Noch wurde kein unbekanntes Gerät dieser Art empfangen."],
+    "Nothing was heard of this device. Press its button.": [
+        null, "Von diesem Gerät wurde nichts empfangen. Drücken Sie seine Taste.",
+    ],
     "Nothing was heard yet": [null, "Bisher wurde nichts empfangen"],
     "Occupancy button": [null, "Anwesenheitstaste"],
     "Off": [null, "Aus"],
@@ -187,7 +201,7 @@ cockpit.locale({
     "Only the devices in the last lines are shown: no list of all devices has been read.": [
         null, "Nur die Geräte der letzten Zeilen werden gezeigt: Es wurde keine Liste aller Geräte gelesen.",
     ],
-    "Open for 2 minutes": [null, "2 Minuten lang öffnen"],
+    "Open the learn window for 2 minutes": [null, "Lernfenster für 2 Minuten öffnen"],
     "Open the learn window for “Sensor or actuator”, and press its learn button.": [
         null, "Öffnen Sie das Lernfenster für „Sensor oder Aktor“, und drücken Sie seine Lerntaste.",
     ],
@@ -213,6 +227,9 @@ cockpit.locale({
     "Power failure": [null, "Netzausfall"],
     "Power failure detection": [null, "Netzausfallerkennung"],
     "Power in kW": [null, "Leistung in kW"],
+    "Press Show, then Edit, and choose another profile.": [
+        null, "Drücken Sie „Anzeigen“, dann „Bearbeiten“, und wählen Sie ein anderes Profil.",
+    ],
     "Press a button of a device near the stick.": [null, "Drücken Sie eine Taste eines Geräts in der Nähe des Sticks."],
     "Press a button of the new device: it comes first.": [
         null, "Drücken Sie eine Taste des neuen Geräts: Es kommt nach vorn.",
@@ -235,6 +252,7 @@ cockpit.locale({
     "Restart, Back up and Set up need administrative access.": [
         null, "Neustarten, Sichern und Einrichten brauchen administrativen Zugriff.",
     ],
+    "Restarted at $0.": [null, "Neu gestartet um $0."],
     "Results": [null, "Ergebnisse"],
     "Rocker": [null, "Wippe"],
     "Rocker switch, 2 rockers": [null, "Wippentaster, 2 Wippen"],
@@ -256,11 +274,13 @@ cockpit.locale({
     "Set up and start": [null, "Einrichten und starten"],
     "Set up another gateway …": [null, "Weiteres Gateway einrichten …"],
     "Show": [null, "Anzeigen"],
+    "Show the new result": [null, "Neues Ergebnis zeigen", "$0 neue Ergebnisse zeigen"],
     "Signal": [null, "Empfang"],
     "Silent": [null, "Stumm"],
     "Silent after": [null, "Stumm nach"],
     "Sort by": [null, "Sortieren nach"],
     "Start": [null, "Starten"],
+    "Start, stop, journal": [null, "Start, Stopp, Journal"],
     "Stick": [null, "Stick"],
     "Stop": [null, "Stoppen"],
     "Supply voltage": [null, "Versorgungsspannung"],
@@ -271,6 +291,8 @@ cockpit.locale({
     "Temperature": [null, "Temperatur"],
     "Temperature and humidity sensor": [null, "Temperatur- und Feuchtesensor"],
     "Temperature sensor": [null, "Temperatursensor"],
+    "The ID has 8 characters (0-9, A-F).": [null, "Die ID hat 8 Zeichen (0-9, A-F)."],
+    "The ID has 8 characters (0-9, A-F); this one has $0.": [null, "Die ID hat 8 Zeichen (0-9, A-F); diese hat $0."],
     "The ID is printed on most devices.": [null, "Die ID steht auf den meisten Geräten."],
     "The command enogatectl is not installed: install the package enogate.": [
         null, "Der Befehl enogatectl fehlt: Installieren Sie das Paket enogate.",
@@ -284,6 +306,7 @@ cockpit.locale({
     "The devices are not known yet.": [null, "Die Geräte sind noch nicht bekannt."],
     "The gateway $0 is restarting": [null, "Das Gateway $0 startet neu"],
     "The gateway $0 is stopped": [null, "Das Gateway $0 ist angehalten"],
+    "The gateway $0 uses this port.": [null, "Das Gateway $0 nutzt diese Schnittstelle."],
     "The gateway cannot store this label: it has characters that are not ASCII, such as ä or ß.": [
         null, "Das Gateway kann diese Bezeichnung nicht speichern: Sie hat Zeichen außerhalb von ASCII, etwa ä oder ß.",
     ],
@@ -311,9 +334,6 @@ cockpit.locale({
     ],
     "The new device gets the profile and the label, and this one is deleted.": [
         null, "Das neue Gerät erhält Profil und Bezeichnung, und dieses wird gelöscht.",
-    ],
-    "The order was sent, but the device has reported nothing. Has it learned this gateway?": [
-        null, "Der Befehl wurde gesendet, aber das Gerät hat nichts gemeldet. Hat es dieses Gateway eingelernt?",
     ],
     "There is a gateway with this name already: choose another name.": [
         null, "Es gibt schon ein Gateway mit diesem Namen: Wählen Sie einen anderen.",
@@ -390,6 +410,7 @@ cockpit.locale({
     ],
     "failure": [null, "Fehler"],
     "heard": [null, "empfangen"],
+    "in use by $0": [null, "in Gebrauch von $0"],
     "its length does not fit its profile": [null, "seine Länge passt nicht zu seinem Profil"],
     "last telegram: $0": [null, "letztes Telegramm: $0"],
     "learned": [null, "eingelernt"],
@@ -397,6 +418,7 @@ cockpit.locale({
     "live": [null, "live"],
     "lost": [null, "verloren"],
     "no answer": [null, "keine Antwort"],
+    "no stick": [null, "kein Stick"],
     "none": [null, "keine"],
     "none known": [null, "keins bekannt"],
     "not known yet": [null, "noch nicht bekannt"],
@@ -439,7 +461,6 @@ cockpit.locale({
     "unknown": [null, "unbekannt"],
     "unknown request in its teach-in telegram": [null, "unbekannte Anfrage im Anlerntelegramm"],
     "usually sends at least every $0": [null, "sendet meist mindestens alle $0"],
-    "waiting": [null, "wartet"],
     "warning": [null, "Warnung"],
     "weak": [null, "schwach"],
     "within": [null, "innerhalb von"],

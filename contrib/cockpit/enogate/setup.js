@@ -9,29 +9,36 @@ import { isGatewayName } from "./places.js";
 const USUAL_NAME = "hall";
 const NAME_RULE = _("Use letters, digits, - and _, and do not begin with - or mqtt.");
 const NAME_TAKEN = _("There is a gateway with this name already: choose another name.");
-const NO_PORT = _("No serial port was found. Plug in the stick, and open this dialog again.");
+const NO_PORT = _("No free serial port was found. Plug in the stick, and open this dialog again.");
 const NO_RIGHTS = _("Or you may not see it. To set up a gateway, turn on administrative access in Cockpit, or ask an " +
     "administrator of this machine.");
 
-/** The first of these ports that none of these gateways uses, also by another name; else the first one. */
-async function freePort(ports, gateways) {
+/** Which of these gateways uses which of these ports, also by another name of the port. */
+async function usersOfPorts(ports, gateways) {
     const settings = await Promise.all(gateways.map(name => commands.readSettings(name)));
-    const serials = settings.map(found => found.get("SERIAL")).filter(Boolean);
-    const files = await commands.realPaths([...ports, ...serials]);
-    const used = new Set(files.slice(ports.length));
-    return ports.find((_, index) => !used.has(files[index])) ?? ports[0];
+    const used = settings.map((found, index) => [found.get("SERIAL"), gateways[index]]).filter(([serial]) => serial);
+    const files = await commands.realPaths([...ports, ...used.map(([serial]) => serial)]);
+    const users = new Map(used.map(([, name], index) => [files[ports.length + index], name]));
+    return new Map(ports.map((port, index) => [port, users.get(files[index])]));
 }
 
 export class SetupDialog {
     constructor(page) {
         Object.assign(this, { page, dialog: byId("setup"), name: byId("setup-name"), port: byId("setup-port") });
-        // The gateway whose settings this dialog has written.
-        this.written = null;
+        // The gateway whose settings this dialog has written, and which gateways use the ports.
+        Object.assign(this, { written: null, users: new Map() });
+        this.port.addEventListener("change", () => this.run(async () => this.refusal));
         onEnter(this.name, () => this.setUp());
         byId("no-gateway-setup").addEventListener("click", () => this.open());
         byId("gateway-setup").addEventListener("click", () => this.open());
         byId("setup-look").addEventListener("click", () => this.run(() => this.lookForModule()));
         byId("setup-go").addEventListener("click", () => this.setUp());
+    }
+
+    /** Why the port is refused; empty if it is not. */
+    get refusal() {
+        const user = this.users.get(this.port.value);
+        return user ? format(_("The gateway $0 uses this port."), user) : "";
     }
 
     open() {
@@ -41,9 +48,13 @@ export class SetupDialog {
         this.dialog.showModal();
         return this.run(async () => {
             const ports = await commands.serialPorts();
-            const chosen = await freePort(ports, this.page.gateways);
-            setOptions(this.port, ports.map(path => [path, path.replace("/dev/serial/by-id/", "")]), chosen);
-            return ports.length ? "" : NO_PORT;
+            this.users = await usersOfPorts(ports, this.page.gateways);
+            const free = ports.find(path => !this.users.get(path)) ?? "";
+            const note = user => user ? `, ${format(_("in use by $0"), user)}` : "";
+            const options = ports.map(path =>
+                [path, path.replace("/dev/serial/by-id/", "") + note(this.users.get(path))]);
+            setOptions(this.port, free ? options : [["", "–"], ...options], free);
+            return free ? "" : NO_PORT;
         });
     }
 
@@ -54,7 +65,7 @@ export class SetupDialog {
         setText(byId("setup-result"), "…");
         const textOf = error => error.problem === "change-conflict" ? NAME_TAKEN : failureText(error);
         setText(byId("setup-result"), await action().catch(textOf));
-        enable(this.port.value);
+        enable(this.port.value && !this.refusal);
     }
 
     async lookForModule() {

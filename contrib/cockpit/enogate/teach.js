@@ -1,6 +1,6 @@
 // The learn window: it is opened for a time, which is counted down.
 
-import { _, format } from "./cockpit.js";
+import { _, format, ngettext } from "./cockpit.js";
 import { button, byId, Rows, rowWithCells, setOptions, setText, showText } from "./dom.js";
 import { failureText, windowCommand } from "./orders.js";
 import { fillSenderCell } from "./packets.js";
@@ -22,6 +22,8 @@ export class LearnWindowCard {
         }
         byId("teach-open").addEventListener("click", () => this.open());
         byId("teach-close").addEventListener("click", () => this.close());
+        // After the click, neither the pointer nor the focus is among the results.
+        byId("teach-new").addEventListener("click", () => page.painter.paintNow());
         byId("teach-bar").max = WINDOW_SECONDS;
     }
 
@@ -38,6 +40,7 @@ export class LearnWindowCard {
             return;
         const process = this.page.runCommand(windowCommand(this.page.gateway, this.openingOrder(), WINDOW_SECONDS));
         Object.assign(this, { process, learned: "" });
+        byId("teach-list").scrollTop = 0;
         process.then(() => this.handleEnd(process, null), error => this.handleEnd(process, error));
         this.page.painter.paintNow();
     }
@@ -65,10 +68,8 @@ export class LearnWindowCard {
         this.page.refresh();
     }
 
-    /** There is no window of the page. After one that was open, the usual kind of device is chosen again. */
+    /** There is no window of the page. */
     resetWindow() {
-        if (this.until)
-            ["on", "answer", "as"].forEach(name => { byId(`teach-${name}`).checked = name === "on"; });
         Object.assign(this, { process: null, until: null });
     }
 
@@ -107,8 +108,20 @@ export class LearnWindowCard {
         setText(byId("teach-mode"), format(text, words.profileWithKind(profile)));
         const done = _("$0 was learned, so the learn window is closed.");
         showText(byId("teach-learned"), this.learned ? format(done, this.learned) : "");
-        this.rows.fill(model.taught.map(item => [item.number, item]).reverse());
-        byId("teach-results").hidden = !model.taught.length;
+        this.paintResults(model);
+    }
+
+    /** Shows the results, and scrolls to a new one. While the list is in use, a button says how many are missing. */
+    paintResults({ taught }) {
+        const [[newest] = []] = this.rows.shown;
+        this.rows.fill(taught.map(item => [item.number, item]).reverse());
+        const [[first] = []] = this.rows.shown;
+        if (first !== newest)
+            byId("teach-list").scrollTop = 0;
+        const count = taught.filter(({ number }) => number > first).length;
+        const text = ngettext("Show the new result", "Show $0 new results", count);
+        showText(byId("teach-new"), count ? format(text, count) : "");
+        byId("teach-results").hidden = !taught.length;
     }
 }
 
@@ -135,6 +148,7 @@ class ResultRow {
 
     openDialog() {
         const { device, add } = this.page.sections;
-        (this.device ? device : add).dialog.open(this.line.id, this.device ?? this.sender);
+        // Only the dialog of a device has a choice of what is to be entered: here it is the label.
+        (this.device ? device : add).dialog.open(this.line.id, this.device ?? this.sender, true);
     }
 }

@@ -36,6 +36,9 @@ export const hasText = (wanted, ...texts) => [wanted, asciiSpelling(wanted) || w
 /** The label of a device for people. */
 export const labelText = ({ label }) => label || _("(no label)");
 
+/** The label of a device, if it has one, and its kind. */
+export const labelAndKind = ({ label, eep }) => [label, kindOfProfile(eep) || eep].filter(Boolean).join(", ");
+
 export const kindText = rorg => KINDS.has(rorg) ? _(KINDS.get(rorg)) : format(_("telegram $0"), rorg);
 export const reasonText = why => REASONS.has(why) ? _(REASONS.get(why)) : why;
 /** A result of teaching. A device may also be deleted by an order. */
