@@ -93,6 +93,23 @@ test("a port that no gateway uses is chosen at first, also if the settings have 
     machine.outputOf = outputOf;
 });
 
+test("the end of what was begun before the dialog was opened again shows nothing", async () => {
+    let end = null;
+    page.findGateways = () => new Promise(done => { end = done; });
+    await open();
+    byId("setup-name").value = "yard";
+    await press("go");
+    byId("gateway-setup").click();
+    end();
+    // Long before the ports are known, which several commands ask for.
+    await Promise.resolve();
+    await Promise.resolve();
+    await Promise.resolve();
+    assert.deepEqual([dialog.dialog.open, result(), enabled()], [true, "…", [false, false]]);
+    await settle();
+    assert.deepEqual([result(), enabled()], ["", [true, true]]);
+});
+
 test("without a serial port nothing can be set up", async () => {
     outputs.find = Error("find: /dev/serial/by-id: No such file or directory");
     await open();

@@ -25,8 +25,8 @@ async function usersOfPorts(ports, gateways) {
 export class SetupDialog {
     constructor(page) {
         Object.assign(this, { page, dialog: byId("setup"), name: byId("setup-name"), port: byId("setup-port") });
-        // The gateway whose settings this dialog has written, and which gateways use the ports.
-        Object.assign(this, { written: null, users: new Map() });
+        // The gateway whose settings this dialog has written, which gateways use the ports, and what was begun last.
+        Object.assign(this, { written: null, users: new Map(), action: null });
         this.port.addEventListener("change", () => this.run(async () => this.refusal));
         onEnter(this.name, () => this.setUp());
         byId("no-gateway-setup").addEventListener("click", () => this.open());
@@ -58,14 +58,21 @@ export class SetupDialog {
         });
     }
 
-    /** Does something, and shows what it returns, or why it failed. Meanwhile the buttons cannot be used. */
+    /**
+     * Does something, and shows what it returns, or why it failed. Meanwhile the buttons cannot be used. If the dialog
+     * is opened again before that, nothing of it is shown.
+     */
     async run(action) {
+        this.action = action;
         const enable = isEnabled => ["look", "go"].forEach(name => { byId(`setup-${name}`).disabled = !isEnabled; });
         enable(false);
         setText(byId("setup-result"), "…");
         const textOf = error => error.problem === "change-conflict" ? NAME_TAKEN : failureText(error);
-        setText(byId("setup-result"), await action().catch(textOf));
-        enable(this.port.value && !this.refusal);
+        const text = await action().catch(textOf);
+        if (this.action === action) {
+            setText(byId("setup-result"), text);
+            enable(this.port.value && !this.refusal);
+        }
     }
 
     async lookForModule() {
