@@ -26,8 +26,7 @@ class Actuator(Device):
         self.owners: set[int] = set()
         self.channels = 2 if share.device_kind(row.eep).endswith("2 channels") else 1
         self.ute_query = bytes([UTE_QUERY_BYTE, self.channels, MANUFACTURER & 0xFF, MANUFACTURER >> 8, self.eep_type,
-                                self.func,
-                                RORG_VLD])
+                                self.func, RORG_VLD])
         self.values, self.learns_until = [0] * self.channels, -1.0
 
     def teach_in(self) -> None:

@@ -29,18 +29,16 @@ class Names:
             ids.update(int(id_text, 16) for id_text in ID_PATTERN.findall(line))
             labels.update(LABEL_PATTERN.findall(line))
         self.name, self.labels = name, [*map(json.loads, labels)]
-        bases = {device_id & -BASE_STEP for device_id in ids if FIRST_BASE <= device_id < BROADCAST}
-        free_ids = (device_id for device_id in itertools.count(FIRST_NEW_ID) if device_id not in ids)
-        free_bases = (device_id
-                      for device_id in range(FIRST_BASE, BROADCAST - BASE_STEP, BASE_STEP) if device_id not in bases)
-        new_ids = dict(zip(sorted(device_id for device_id in ids if device_id < FIRST_BASE),
-                           free_ids)) | dict(zip(sorted(bases), free_bases))
-        new_ids |= {device_id: new_ids[device_id & -BASE_STEP] + device_id % BASE_STEP
-                    for device_id in ids - new_ids.keys() if device_id & -BASE_STEP in new_ids}
-        self.ids = {f"{device_id:08X}": f"{new_id:08X}"
-                    for device_id, new_id in (new_ids | {BROADCAST: BROADCAST}).items()}
-        self.unused_id = next(device_id
-                              for number in itertools.count() if (device_id := f"{number:08X}") not in self.ids)
+        bases = {old_id & -BASE_STEP for old_id in ids if FIRST_BASE <= old_id < BROADCAST}
+        free_ids = (new_id for new_id in itertools.count(FIRST_NEW_ID) if new_id not in ids)
+        free_bases = (base for base in range(FIRST_BASE, BROADCAST - BASE_STEP, BASE_STEP) if base not in bases)
+        device_ids = sorted(old_id for old_id in ids if old_id < FIRST_BASE)
+        new_ids = dict(zip(device_ids, free_ids)) | dict(zip(sorted(bases), free_bases))
+        new_ids |= {old_id: new_ids[old_id & -BASE_STEP] + old_id % BASE_STEP
+                    for old_id in ids - new_ids.keys() if old_id & -BASE_STEP in new_ids}
+        new_ids[BROADCAST] = BROADCAST
+        self.ids = {f"{old_id:08X}": f"{new_id:08X}" for old_id, new_id in new_ids.items()}
+        self.unused_id = next(text for number in itertools.count() if (text := f"{number:08X}") not in self.ids)
 
     def anonymous_line(self, line: bytes) -> bytes:
         """A line with other IDs and without a label. One that a gateway has not written like this is left out."""

@@ -16,8 +16,7 @@ from enogate_tools.port import is_base
 MAX_TEXT, COMMAND_TIMEOUT = 1 << 20, 60
 # The settings in a report, and the forms of the values that it shows. All other values may be secret.
 NUMBER_PATTERN, YES_OR_NO_PATTERN = "[0-9]+", "yes|no"
-SHOWN_SETTINGS = {
-    "BASE": "[0-9A-Fa-f]{8}", "SERIAL": "/(dev|run)/[A-Za-z0-9/._:+@=,~-]+", "TURNS": NUMBER_PATTERN,
+SHOWN_SETTINGS = {"BASE": "[0-9A-Fa-f]{8}", "SERIAL": "/(dev|run)/[A-Za-z0-9/._:+@=,~-]+", "TURNS": NUMBER_PATTERN,
     "EXPLAIN": "--explain",
     "MQTT_HOST": "localhost", "MQTT_PORT": NUMBER_PATTERN, "MQTT_USER": "", "MQTT_PASSWORD_FILE": "",
     "MQTT_TLS": YES_OR_NO_PATTERN,

@@ -23,8 +23,7 @@ from .script import script_of
 # How many bytes of lines a report has: those of three days with 10,000 packets each. If no base ID is known, no packet
 # was addressed to the gateway.
 MAX_LINES, ANY_BASE, REPORT_MODE = 1 << 24, "FF800000", 0o600
-README_FORM = """\
-Report on the gateway {}, for `enogate-report --replay FILE`. The page faults.md of the guide describes it.
+README = """Report on the gateway {}, for `enogate-report --replay FILE`. The page faults.md of the guide describes it.
 
 `enogate replay --base {} --explain <script.txt` must write expected.lines, besides packets for the radio module. These
 are the lines of lines.txt, with counters from 0 on. The numbers of the differences are:
@@ -35,8 +34,7 @@ are the lines of lines.txt, with counters from 0 on. The numbers of the differen
 Not in this report:
 {}
 """
-HELP_SENTENCE = """\
-It has the lines, a script that replays them, versions, settings without secrets, journals, and the output
+HELP = """It has the lines, a script that replays them, versions, settings without secrets, journals, and the output
 of enogate-check. Look at it before you send it: the packets show when people are in the building."""
 
 
@@ -60,8 +58,7 @@ def contents_of_report(check: Check, output: OutputFunction, is_anonymous: bool)
     except OSError as error:
         missing.append(f"{check.lines}: {error.strerror}")
     lines = [*last_lines(check.lines, MAX_LINES)][::-1]
-    missing += [f"{log_path}: older lines; from when to when is not known"
-                for log_path in left_out_files(check.lines, MAX_LINES)]
+    missing += [f"{log}: older lines; from when to when is not known" for log in left_out_files(check.lines, MAX_LINES)]
     if not any(b'"type":"packet"' in line for line in lines):
         missing.append(("packets: the lines have none" if lines else "packets: no line was read")
                        + ("" if check.settings["EXPLAIN"] == "--explain" else "; EXPLAIN=--explain is needed"))
@@ -71,9 +68,8 @@ def contents_of_report(check: Check, output: OutputFunction, is_anonymous: bool)
         lines, base = [*map(names.anonymous_line, lines)], names.ids.get(base, ANY_BASE)
         texts = {name: names.anonymous_text(text) for name, text in texts.items()}
     script = script_of(lines, base, names.unused_id)
-    texts["README.txt"] = README_FORM.format(title, base, len(script.orders) - script.input_count,
-                                             script.left_out_count,
-                                             script.gap_count, "\n".join(missing) or "(nothing is missing)")
+    texts["README.txt"] = README.format(title, base, len(script.orders) - script.input_count, script.left_out_count,
+                                        script.gap_count, "\n".join(missing) or "(nothing is missing)")
     texts |= {BASE_FILE: f"{base}\n", SCRIPT_FILE: "\n".join([*script.orders, ""]),
               EXPECTED_FILE: "\n".join([*script.expected_lines, ""])}
     return {"lines.txt": b"".join(line + b"\n" for line in lines), **{name: texts[name].encode() for name in texts}}
@@ -122,5 +118,5 @@ def main(arguments: list[str] | None = None, system: System | None = None, outpu
         path = getattr(error, "filename", None) or words.replay
         print(f"enogate-report: {path}: {getattr(error, 'strerror', None) or error}", file=sys.stderr)
         return 1
-    print(f"{path}\n{HELP_SENTENCE}")
+    print(f"{path}\n{HELP}")
     return 0

@@ -16,8 +16,7 @@ from enogate_tools.port import is_base
 
 BASE_FILE, SCRIPT_FILE, EXPECTED_FILE = "base.txt", "script.txt", "expected.lines"
 MEMBER_NAMES = {BASE_FILE, SCRIPT_FILE, EXPECTED_FILE, "README.txt", "lines.txt", "versions.txt", "settings.txt",
-                "check.txt", "journal.txt",
-                "journal-mqtt.txt"}
+                "check.txt", "journal.txt", "journal-mqtt.txt"}
 FOLDER_PATTERN = "enogate-report-[A-Za-z0-9_-]+-[0-9]{4}-[0-9]{2}-[0-9]{2}-[0-9]{6}"
 MAX_CONTENTS, MAX_SHOWN_TEXT = 1 << 26, 300
 

@@ -17,8 +17,7 @@ MAX_SCRIPT, MAX_DEVICES, MAX_BYTES = 1 << 24, 1000, 99
 RESULT_TEXTS = texts_by_word("result")
 # The type of the line that follows a packet line with this reason, and the counter of the packet.
 FOLLOWING_BY_REASON = {"read": ("reading", "readings"), "response": ("response", "responses"),
-                       "refused": ("error", "refused"),
-                       **dict.fromkeys(RESULT_TEXTS, ("teach", "teach"))}
+                       "refused": ("error", "refused"), **dict.fromkeys(RESULT_TEXTS, ("teach", "teach"))}
 # An order with this error as its answer. ID is one that no device has.
 FAULTY_ORDER_BY_ERROR = {"too_long": "x" * 201, "syntax": "?", "range": "remove FFFFFFFF",
                          "unknown_device": "remove ID",
@@ -124,8 +123,7 @@ class Script:
     def list_order(self, lines: Sequence[Members]) -> str:
         """The order for the list of all devices."""
         listed_devices = {device_of(line): (eep_of(line), maker_of(line),
-                                            checked_text(line["label"], OPTIONAL_TEXT_PATTERN))
-                          for line in lines}
+                                            checked_text(line["label"], OPTIONAL_TEXT_PATTERN)) for line in lines}
         for device in [device_id for device_id in self.devices if device_id not in listed_devices]:
             self.set_device(device)
         for device, eep_maker_label in listed_devices.items():
