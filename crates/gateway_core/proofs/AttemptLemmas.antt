@@ -1,11 +1,10 @@
 -- One input, applied or failed.
-use Rattle.std.proofs.Common.{◌≡◌, inl, inr, ℕ, ◌≤◌, Bool, true, false, IsSome, List, [], ◌∷◌, length, Option, Some}
-use Rattle.std.proofs.Common.{None, Result, Ok, Err, refl, sym, ap, subst, ◌∙◌, append-nil}
-use Rattle.std.specs.Prelude.{MatchBool, is_some, if◌then◌else◌}
+use Rattle.std.proofs.Common.{◌≡◌, inl, inr, ℕ, ◌≤◌, Bool, true, false, List, [], ◌∷◌, length, Option, Some, None}
+use Rattle.std.proofs.Common.{Result, Ok, Err, refl, sym, ap, subst, ◌∙◌, append-nil, arith}
+use Rattle.std.specs.Prelude.{MatchBool, is_some, if◌then◌else◌, MatchResult}
 use Rattle.std.specs.FinMap.{get}
-use Rattle.std.specs.Option.{option_map}
 use Rattle.std.proofs.lemmas.Bool.{le-ltb}
-use Rattle.learned_devices.proofs.ForCallers.{no_more_commits, more_commits_after}
+use Rattle.learned_devices.proofs.ForCallers.{no_more_commits, more_commits_after, learn_adds_one}
 use Rattle.learned_devices.specs.CommitCounts.{AtMostMoreCommits}
 use Rattle.learned_devices.specs.DeviceStoreState.{DeviceStoreState, Keeps, Commits, LeavesPending}
 use Rattle.erp1_telegrams.specs.declared.eep.Eep.{Eep}
@@ -13,10 +12,9 @@ use Rattle.erp1_telegrams.specs.Telegram.{Telegram}
 use Rattle.profile_rows.specs.Reading.{Entry}
 use Rattle.profile_rows.specs.declared.unreadable.Unreadable.{Unreadable}
 use Rattle.learned_devices.specs.declared.Device.{Device}
-use Rattle.learned_devices.specs.Devices.{DeviceData, Devices, device, device_of, is_full_for, DeviceUpdate}
-use Rattle.learned_devices.specs.Devices.{learn_update, forget_update, relabel_update}
+use Rattle.learned_devices.specs.Devices.{Devices, device, device_of, is_full_for, DeviceUpdate, learn_update}
+use Rattle.learned_devices.specs.Devices.{forget_update, relabel_update}
 use Rattle.teach_in.specs.declared.mode.Mode.{Mode}
-use Rattle.teach_in.specs.declared.mode.Mode.TheVariants.{LearnAs}
 use Rattle.teach_in.specs.Profiles.{supported}
 use Rattle.teach_in.specs.declared.outcome.Outcome.{Outcome}
 use Rattle.teach_in.specs.declared.outcome.Outcome.TheVariants.{Full}
@@ -24,7 +22,7 @@ use Rattle.teach_in.specs.declared.telegrams.Teach.{Teach}
 use Rattle.teach_in.specs.declared.plans.Plan.TheVariants.{Refuse}
 use Rattle.teach_in.specs.Telegrams.{teach_in_of}
 use Rattle.teach_in.specs.Plans.{plan_of}
-use Rattle.teach_in.proofs.ForCallers.{either, of_plan}
+use Rattle.teach_in.proofs.ForCallers.{either}
 use Rattle.gateway_state.specs.declared.error_reason.ErrorReason.TheVariants as error
 use Rattle.teach_in.specs.declared.verdict.Verdict.{Verdict}
 use Rattle.learned_devices.specs.declared.fault.StoreFault.{StoreFault}
@@ -38,7 +36,7 @@ use Rattle.gateway_core.specs.Step.{lines_effect, ordered_learn_effect, if_full_
 use Rattle.gateway_core.specs.Step.{relabel_effect, order_effect, line_effect, reading_effect, case_effect, data_case}
 use Rattle.gateway_core.specs.Step.{effect, update_of, need_of_memory_or_store, with_update, state_after_applied_input}
 use Rattle.gateway_core.specs.Step.{with_mode, plan_effect, teach_report_effect, radio_bytes_of, reply_telegram_of}
-use Rattle.gateway_core.specs.Step.{query_teach_line, if_supported_else_error, mode_effect, error_effect, accept_effect}
+use Rattle.gateway_core.specs.Step.{query_teach_line, if_supported_else_error, mode_effect, accept_effect}
 use Rattle.gateway_core.specs.Step.{device_teach_line, unexplained_answer, send_result_effect, Cause, Memory, Need}
 use Rattle.gateway_core.specs.Step.{NeedsMemory, NeedsStore, MayFailFor}
 use Rattle.desk_orders.specs.Limits.{max_line}
@@ -50,12 +48,14 @@ use Rattle.gateway_core.specs.Dispositions.{eep_in_query, maker_in_query}
 use Rattle.gateway_core.specs.Profiles.{read_by}
 use Rattle.gateway_core.specs.private.Failures.{cause_of}
 use Rattle.gateway_core.specs.Run.{failure_answer, Applied, Failed, FailedAtCommit, state_after_failure}
-use Rattle.gateway_core.specs.CrashStates.{nothing_committed_yet, after_committed_update, with_pending_update}
-use Rattle.gateway_core.specs.CrashStates.{IsCrashConsistent}
+use Rattle.gateway_core.specs.CrashStates.{nothing_committed_yet, after_committed_update, IsCrashConsistent}
 use Rattle.gateway_core.specs.Handling.{HandlerValue, HandlesFrom, Handles}
 use Rattle.gateway_core.specs.private.Attempts.{HandlerEffect, state_of, MatchesEffect, IsUpdateCommitted, IsPending}
 use Rattle.gateway_core.specs.private.Attempts.{AppliesOrFails, Attempts, counts_from, explained_answer_to, mode_from}
 use Rattle.gateway_core.specs.private.Attempts.{FailsToUpdate, ChangesOnlyRegistry, TriesToLearn, TriesToForget}
+use Rattle.teach_in.specs.declared.plans.Plan.{Plan}
+use Rattle.learned_devices.specs.StoreCalls.{LooksUp, FailsToLearn, Learns}
+use Rattle.learned_devices.specs.declared.fault.LearnFault.{LearnFault}
 
 -- the state that consists of these parts
 abbrev pub known_with : ℕ → Mode → Counts → Devices → State
@@ -66,68 +66,64 @@ known_with base mode counts devices = record { base = base; mode = mode; counts 
 pub keeps-same : (s : DeviceStoreState) (devices : Devices) → s.holds devices → Keeps s s devices
 keeps-same s devices has = record { now = has; crash = λ left may. may }
 
--- a look-up after a look-up
-pub keeps-after : (old mid new : DeviceStoreState) (devices : Devices) → Keeps old mid devices → Keeps mid new devices
-    → Keeps old new devices
-keeps-after old mid new devices first second = record {
-  now = second.now;
-  crash = λ left may. first.crash left (second.crash left may);
-}
-
--- a write that is tried after a look-up
-pub pends-after : (old mid new : DeviceStoreState) (update : DeviceUpdate) (devices : Devices) → Keeps old mid devices
-    → LeavesPending mid new update devices → LeavesPending old new update devices
-pends-after old mid new update devices keeps pends = record {
-  now = pends.now;
-  crash = λ left may. elim (pends.crash left may) [ inl before ↦ inl (keeps.crash left before) | inr is ↦ inr is ];
-}
+-- an effect after a look-up
+applies_or_fails-after : (old mid new : DeviceStoreState) (devices : Devices) (effect : Effect)
+    (result : Result HandlerEffect Failure)
+    → Keeps old mid devices → AppliesOrFails mid new devices effect result
+    → AppliesOrFails old new devices effect result
+applies_or_fails-after old mid new devices effect result keeps applies = grind arith
 
 -- ---- what needs the device store, which may fail for either cause
 
 pub permitted : (need : Need) (cause : Cause) → need ≡ NeedsStore → MayFailFor need cause
-permitted need cause is = subst (λ n. MayFailFor n cause) (sym is) tt
+permitted need cause is = rw is tt
 
 -- what needs memory may fail for lack of it, whether the device store was asked or not
 pub permits-memory : (asked : Bool) → MayFailFor (if asked then NeedsStore else NeedsMemory) Memory
-permits-memory true = tt
-permits-memory false = tt
+permits-memory asked = grind arith
 
 pub if_full_of_others_else-need : (devices : Devices) (known : Device) (full done : Effect) → full.need ≡ NeedsStore
     → done.need ≡ NeedsStore → (if_full_of_others_else devices known full done).need ≡ NeedsStore
-if_full_of_others_else-need devices known full done first second =
-    either (λ (e : Effect). e.need ≡ NeedsStore) (is_full_for devices known.id) full done first second
+if_full_of_others_else-need devices known full done full_needs done_needs = grind arith
 
-pub plan-need : (state : State) (t : Telegram)
-    → (plan_effect state t true (plan_of t state.mode false)).need ≡ NeedsStore
-plan-need state t =
-    of_plan (λ plan. (plan_effect state t true plan).need ≡ NeedsStore) t state.mode false (record {
-      silent = refl;
-      adds = λ hears eep maker.
-          if_full_of_others_else-need state.devices (record { id = t.sender; eep = eep; maker = maker; label = [] }) _ _
-          refl refl;
-      forgets = λ learning asks. refl;
-      refuses = λ hears outcome is. refl;
-    })
+plan-need : (state : State) (t : Telegram) (plan : Plan) → (plan_effect state t true plan).need ≡ NeedsStore
+plan-need state t plan = grind arith
+
+reading-need : (t : Telegram) (known : Device) (readings : Result (List Entry) Unreadable)
+    → (reading_effect t known readings).need ≡ NeedsStore
+reading-need t known (Ok readings) = refl
+reading-need t known (Err fault) = refl
 
 pub data-need : (state : State) (t : Telegram) (known : Option Device)
     → (case_effect state t (data_case known)).need ≡ NeedsStore
-data-need state t None = plan-need state t
-data-need state t (Some known) = one (read_by known.eep t)
-  where
-    one : (readings : Result (List Entry) Unreadable) → (reading_effect t known readings).need ≡ NeedsStore
-    one (Err fault) = refl
-    one (Ok readings) = refl
+data-need state t None = plan-need state t (plan_of t state.mode false)
+data-need state t (Some known) = reading-need t known (read_by known.eep t)
 
 pub telegram-need : (telegram : Option (Result Telegram OrderFault))
     → (send_result_effect true telegram).need ≡ NeedsStore
-telegram-need (Some (Ok t)) = refl
-telegram-need (Some (Err fault)) = refl
-telegram-need None = refl
+telegram-need telegram = grind arith
 
 pub known-need : (known : Option Device) (effect_of : Device → Effect)
-    → ((it : Device) → (effect_of it).need ≡ NeedsStore) → (if_learned_else_error known effect_of).need ≡ NeedsStore
+    → ((device : Device) → (effect_of device).need ≡ NeedsStore)
+    → (if_learned_else_error known effect_of).need ≡ NeedsStore
 known-need None effect_of needs_store = refl
-known-need (Some it) effect_of needs_store = needs_store it
+known-need (Some device) effect_of needs_store = needs_store device
+
+-- ---- effects that change no device
+
+pub reading-unchanging : (t : Telegram) (known : Device) (readings : Result (List Entry) Unreadable)
+    → (reading_effect t known readings).update ≡ None
+reading-unchanging t known (Ok readings) = refl
+reading-unchanging t known (Err fault) = refl
+
+pub send-unchanging : (asked : Bool) (telegram : Option (Result Telegram OrderFault))
+    → (send_result_effect asked telegram).update ≡ None
+send-unchanging asked telegram = grind arith
+
+pub mode-unchanging : (eep : Eep) (mode : Mode) → (if_supported_else_error eep (mode_effect mode)).update ≡ None
+mode-unchanging eep mode = either (λ (e : Effect). e.update ≡ None) (supported eep) _ _ refl refl
+
+-- ---- what is reported
 
 -- the line and the reply for a sender
 pub teach_line-answer : (state : State) (kind : Teach) (line : TeachLine) (answer : Answer) (outcome : Outcome)
@@ -140,23 +136,8 @@ pub teach_line-answer : (state : State) (kind : Teach) (line : TeachLine) (answe
       desk = desk;
     }
     → answer ≡ unexplained_answer (teach_report_effect state kind line)
-teach_line-answer state kind line answer outcome desk is says e =
-    e
-    ∙ ap (λ o. let a : Answer =
-    record {
-      radio = radio_bytes_of
-          (reply_telegram_of state.base state.mode kind o);
-      explanation = [];
-      desk = desk;
-    } in a) is
-    ∙ ap (λ d. let a : Answer =
-    record {
-      radio =
-          radio_bytes_of (reply_telegram_of state.base state.mode kind line.outcome);
-      explanation = [];
-      desk = d;
-    } in a)
-    (says ∙ sym (append-nil _))
+teach_line-answer state kind line answer outcome desk is says answer_is =
+    rw (answer_is, is, says, append-nil (text (TeachOf line)))
 
 -- the line with the outcome for a sender, by what its telegram contains
 pub line_reported : (id : ℕ) (kind : Teach) (outcome : Outcome) (eep : Option Eep) (maker : Option ℕ)
@@ -172,205 +153,190 @@ pub refused-gives : (done : HandlerEffect) (state : State) (t : Telegram) (kind 
 refused-gives done state t kind id line outcome is sent_by is_reported =
     subst (MatchesEffect done)
     (ap (teach_report_effect state kind) (sym is_reported)
-    ∙ ap (λ i. teach_report_effect state kind (query_teach_line i kind outcome)) sent_by
-    ∙ ap (λ k. teach_report_effect state k (query_teach_line t.sender k outcome)) is)
+    ∙ ap (λ sender. teach_report_effect state kind (query_teach_line sender kind outcome)) sent_by
+    ∙ ap (λ role. teach_report_effect state role (query_teach_line t.sender role outcome)) is)
 
 -- the effects of a device that is to be learned: if the registry is full, and if not
-pub record Adds (known : Device) (full done : Effect) : Type 0 where
-  pub full_needs : full.need ≡ NeedsStore
-  pub stays : full.update ≡ None
-  pub done_needs : done.need ≡ NeedsStore
-  pub learns : done.update ≡ Some (learn_update known)
+pub record LearnEffects (known : Device) : Type 0 where
+  pub full : State → Effect
+  pub done : State → Effect
+  pub full_needs : (state : State) → (full state).need ≡ NeedsStore
+  pub full_unchanging : (state : State) → (full state).update ≡ None
+  pub done_needs : (state : State) → (done state).need ≡ NeedsStore
+  pub learns : (state : State) → (done state).update ≡ Some (learn_update known)
 
--- the effect of a sender that is to be forgotten
-pub record Drops (id : ℕ) (done : Effect) : Type 0 where
-  pub needs : done.need ≡ NeedsStore
-  pub forgets : done.update ≡ Some (forget_update id)
+abbrev pub learn_effect : (known : Device) → LearnEffects known → State → Effect
+learn_effect known effects state = if_full_of_others_else state.devices known (effects.full state) (effects.done state)
 
-pub by-desk : (known : Device)
-    → Adds known (lines_effect NeedsStore (Error error.Full ∷ [])) (ordered_learn_effect known)
-by-desk known = record { full_needs = refl; stays = refl; done_needs = refl; learns = refl }
+abbrev pub by_desk : (known : Device) → LearnEffects known
+by_desk known = record {
+  full = λ state. lines_effect NeedsStore (Error error.Full ∷ []);
+  done = λ state. ordered_learn_effect known;
+  full_needs = λ state. refl;
+  full_unchanging = λ state. refl;
+  done_needs = λ state. refl;
+  learns = λ state. refl;
+}
 
-pub by-radio : (state : State) (kind : Teach) (known : Device)
-    → Adds known (teach_report_effect state kind (device_teach_line known Full)) (accept_effect state kind known)
-by-radio state kind known = record { full_needs = refl; stays = refl; done_needs = refl; learns = refl }
+abbrev pub by_radio : Teach → (known : Device) → LearnEffects known
+by_radio kind known = record {
+  full = λ state. teach_report_effect state kind (device_teach_line known Full);
+  done = λ state. accept_effect state kind known;
+  full_needs = λ state. refl;
+  full_unchanging = λ state. refl;
+  done_needs = λ state. refl;
+  learns = λ state. refl;
+}
 
 module _ {S : Type 0} (stored : S → DeviceStoreState) where
-  -- ---- an effect after a look-up
-
-  made-after : (old mid new : S) (devices : Devices) (update : Option DeviceUpdate)
-      → Keeps (stored old) (stored mid) devices → IsUpdateCommitted (stored mid) (stored new) devices update
-      → IsUpdateCommitted (stored old) (stored new) devices update
-  made-after old mid new devices None keeps made =
-      keeps-after (stored old) (stored mid) (stored new) devices keeps made
-  made-after old mid new devices (Some update) keeps made = made
-
-  pending-after : (old mid new : S) (devices : Devices) (need : Need) (cause : Cause)
-      (update : Option DeviceUpdate)
-      → Keeps (stored old) (stored mid) devices → IsPending (stored mid) (stored new) devices need cause update
-      → IsPending (stored old) (stored new) devices need cause update
-  pending-after old mid new devices need cause None keeps (needed, kept) =
-      (needed, keeps-after (stored old) (stored mid) (stored new) devices keeps kept)
-  pending-after old mid new devices need cause (Some update) keeps pends =
-      pends-after (stored old) (stored mid) (stored new) update devices keeps pends
-
-  pub applies_or_fails-after : (old mid new : S) (devices : Devices) (effect : Effect)
-      (r : Result HandlerEffect Failure)
-      → Keeps (stored old) (stored mid) devices → AppliesOrFails (stored mid) (stored new) devices effect r
-      → AppliesOrFails (stored old) (stored new) devices effect r
-  applies_or_fails-after old mid new devices effect (Ok done) keeps (gives, made) =
-      (gives, made-after old mid new devices effect.update keeps made)
-  applies_or_fails-after old mid new devices effect (Err (BeforeCommit fault)) keeps (needed, kept) =
-      (needed, keeps-after (stored old) (stored mid) (stored new) devices keeps kept)
-  applies_or_fails-after old mid new devices effect (Err (AtCommit fault)) keeps with_pending_update =
-      pending-after old mid new devices effect.need (cause_of fault) effect.update keeps with_pending_update
-
   -- ---- an input that is tried
 
-  -- over another registry, with everything else unchanged
-  pub tries : (base : ℕ) (mode : Mode) (counts : Counts) (old new : S) (effect : State → Effect)
-      (r : Result HandlerEffect Failure)
-      → ((stored new).honest → (stored old).honest)
-      → ((stored new).honest → (stored new).reopenable)
-      → ((stored new).honest → AtMostMoreCommits 1 (stored old).commits (stored new).commits)
-      → ((stored new).honest → (devices : Devices) → (stored old).holds devices
-      → AppliesOrFails (stored old) (stored new) devices
-      (effect (record { base = base; mode = mode; counts = counts; devices = devices })) r)
-      → Attempts stored (record { base = base; mode = mode; counts = counts; registry = old }) effect r
-      (record { base = base; mode = mode; counts = counts; registry = new })
-  tries base mode counts old new effect r clean reopenable commits applies_or_fails =
-      record {
-        base = refl;
-        mode = refl;
-        counts = refl;
-        clean = clean;
-        reopenable = λ honest before. reopenable honest;
-        commits = commits;
-        applies_or_fails = applies_or_fails;
-      }
-
-  -- with no call of the registry
-  pub tries-alone : (v : HandlerValue S) (effect : State → Effect) (r : Result HandlerEffect Failure)
-      → ((devices : Devices) → Keeps (stored v.registry) (stored v.registry) devices
-      → AppliesOrFails (stored v.registry) (stored v.registry) devices (effect (state_of v devices)) r)
-      → Attempts stored v effect r v
-  tries-alone v effect r applies_or_fails = record {
-    base = refl;
-    mode = refl;
-    counts = refl;
-    clean = λ honest. honest;
-    reopenable = λ honest before. before;
-    commits = λ honest. no_more_commits 1 refl;
-    applies_or_fails = λ honest devices has. applies_or_fails devices (keeps-same (stored v.registry) devices has);
+  -- only the registry has changed
+  attempts-changed_registry : (old new : HandlerValue S) (IsSo : Devices → Type 0) (effect : State → Effect)
+      (result : Result HandlerEffect Failure) → ChangesOnlyRegistry stored old IsSo new
+      → ((devices : Devices) → IsSo devices
+      → AppliesOrFails (stored old.registry) (stored new.registry) devices (effect (state_of old devices)) result)
+      → Attempts stored old effect result new
+  attempts-changed_registry old new IsSo effect result changes applies_or_fails = record {
+    base = rw changes.same;
+    mode = rw changes.same;
+    counts = rw changes.same;
+    clean = changes.clean;
+    reopenable = changes.reopenable;
+    commits = changes.commits;
+    applies_or_fails =
+        λ honest devices has. applies_or_fails devices (changes.result_for_devices honest devices has);
   }
 
-  -- if the effects are equal
-  pub tries-same : (old new : HandlerValue S) (effect other : State → Effect) (r : Result HandlerEffect Failure)
-      → ((devices : Devices) → effect (state_of old devices) ≡ other (state_of old devices))
-      → Attempts stored old other r new → Attempts stored old effect r new
-  tries-same old new effect other r same tries = record {
-    base = tries.base;
-    mode = tries.mode;
-    counts = tries.counts;
-    clean = tries.clean;
-    reopenable = tries.reopenable;
-    commits = tries.commits;
-    applies_or_fails = λ honest devices has.
-        subst (λ e. AppliesOrFails (stored old.registry) (stored new.registry) devices e r) (sym (same devices))
-        (tries.applies_or_fails honest devices has);
-  }
+  module _ (old : HandlerValue S) (new : S) where
+    -- the registry was called
+    pub changed-by_call : (IsSo : Devices → Type 0)
+        → ((stored new).honest → (stored old.registry).honest)
+        → ((stored new).honest → (stored new).reopenable)
+        → ((stored new).honest → AtMostMoreCommits 1 (stored old.registry).commits (stored new).commits)
+        → ((stored new).honest → (devices : Devices) → (stored old.registry).holds devices → IsSo devices)
+        → ChangesOnlyRegistry stored old IsSo (record old { registry = new })
+    changed-by_call IsSo clean reopenable commits is_so = record {
+      same = refl;
+      clean = clean;
+      reopenable = λ honest before. reopenable honest;
+      commits = commits;
+      result_for_devices = is_so;
+    }
 
-  -- after a look-up in the registry
-  pub tries-behind : (v mid new : HandlerValue S) (registry : S) (effect other : State → Effect)
-      (r : Result HandlerEffect Failure)
-      → mid ≡ record v { registry = registry }
-      → ((stored registry).honest → (stored v.registry).honest)
-      → ((stored registry).honest → (stored registry).reopenable)
-      → ((stored registry).honest → (stored registry).commits ≡ (stored v.registry).commits)
-      → ((stored registry).honest → (devices : Devices) → (stored v.registry).holds devices
-      → (effect (state_of v devices) ≡ other (state_of v devices))
-      × Keeps (stored v.registry) (stored registry) devices)
-      → Attempts stored mid other r new → Attempts stored v effect r new
-  tries-behind v mid new registry effect other r is clean reopenable commits found tried =
-      let over : Attempts stored (record v { registry = registry }) other r new =
-      subst (λ (m : HandlerValue S). Attempts stored m other r new) is tried in
-      record {
-        base = over.base;
-        mode = over.mode;
-        counts = over.counts;
-        clean = λ honest. clean (over.clean honest);
-        reopenable = λ honest before. over.reopenable honest (reopenable (over.clean honest));
-        commits = λ honest. more_commits_after (commits (over.clean honest)) (over.commits honest);
-        applies_or_fails = λ honest devices has.
-            let f = found (over.clean honest) devices has in
-            subst (λ e. AppliesOrFails (stored v.registry) (stored new.registry) devices e r) (sym f.0)
-            (applies_or_fails-after v.registry registry new.registry devices (other (state_of v devices)) r f.1
-            (over.applies_or_fails honest devices f.1.now));
-      }
+    -- by a call that learns a device
+    pub changed-by_learning : {A : Type 0} (known : Device) (result : Result A LearnFault) (IsSo : Devices → Type 0)
+        → Learns (stored old.registry) (stored new) known result
+        → ((devices : Devices) → MatchResult result
+        (λ _. (is_full_for devices known.id ≡ false) × Commits (stored new) (learn_update known) devices)
+        (FailsToLearn (stored old.registry) (stored new) known devices) → IsSo devices)
+        → ChangesOnlyRegistry stored old IsSo (record old { registry = new })
+    changed-by_learning known result IsSo learns is_so =
+        changed-by_call IsSo learns.clean learns.reopenable (λ honest. learn_adds_one result (learns.commits honest))
+        (λ honest devices has. is_so devices (learns.devices honest devices has))
 
-  -- a telegram that is read gives a line or none, and changes nothing
-  pub reading-applies_or_fails : (old new : S) (devices : Devices) (t : Telegram) (known : Device)
-      (readings : Result (List Entry) Unreadable) (done : HandlerEffect)
-      → MatchesEffect done (reading_effect t known readings)
-      → Keeps (stored old) (stored new) devices
-      → AppliesOrFails (stored old) (stored new) devices (reading_effect t known readings) (Ok done)
-  reading-applies_or_fails old new devices t known (Err fault) done gives keeps = (gives, keeps)
-  reading-applies_or_fails old new devices t known (Ok readings) done gives keeps = (gives, keeps)
+    pub attempts-called : (effect : State → Effect) (result : Result HandlerEffect Failure)
+        → ((stored new).honest → (stored old.registry).honest)
+        → ((stored new).honest → (stored new).reopenable)
+        → ((stored new).honest → AtMostMoreCommits 1 (stored old.registry).commits (stored new).commits)
+        → ((stored new).honest → (devices : Devices) → (stored old.registry).holds devices
+        → AppliesOrFails (stored old.registry) (stored new) devices (effect (state_of old devices)) result)
+        → Attempts stored old effect result (record old { registry = new })
+    attempts-called effect result clean reopenable commits applies_or_fails =
+        attempts-changed_registry _ _ _ effect result (changed-by_call _ clean reopenable commits applies_or_fails)
+        (λ devices so. so)
 
-  -- ---- learning and forgetting a device
-
-  -- over another registry
-  pub alone : (base : ℕ) (mode : Mode) (counts : Counts) (old new : S) (IsSo : Devices → Type 0)
-      → ((stored new).honest → (stored old).honest)
-      → ((stored new).honest → (stored new).reopenable)
-      → ((stored new).honest → AtMostMoreCommits 1 (stored old).commits (stored new).commits)
-      → ((stored new).honest → (devices : Devices) → (stored old).holds devices → IsSo devices)
-      → ChangesOnlyRegistry stored (record { base = base; mode = mode; counts = counts; registry = old }) IsSo
-      (record { base = base; mode = mode; counts = counts; registry = new })
-  alone base mode counts old new IsSo clean reopenable commits is_so =
-      record {
-        same = refl;
-        clean = clean;
-        reopenable = λ honest before. reopenable honest;
-        commits = commits;
-        result_for_devices = is_so;
-      }
+    -- a device was looked up
+    pub attempts-looked_up : (effect : State → Effect) (result : Result HandlerEffect Failure) (id : ℕ)
+        (found : Result (Option Device) StoreFault) → LooksUp (stored old.registry) (stored new) id found
+        → ((devices : Devices)
+        → MatchResult found
+        (λ device. (device ≡ device_of devices id) × Keeps (stored old.registry) (stored new) devices)
+        (λ _. Keeps (stored old.registry) (stored new) devices)
+        → AppliesOrFails (stored old.registry) (stored new) devices (effect (state_of old devices)) result)
+        → Attempts stored old effect result (record old { registry = new })
+    attempts-looked_up effect result id found looks_up applies_or_fails =
+        attempts-called effect result looks_up.clean looks_up.reopenable
+        (λ honest. no_more_commits 1 (looks_up.commits honest))
+        (λ honest devices has. applies_or_fails devices (looks_up.devices honest devices has))
 
   -- with no call of the registry
-  pub alone-unasked : (v : HandlerValue S) (IsSo : Devices → Type 0)
-      → ((devices : Devices) → Keeps (stored v.registry) (stored v.registry) devices → IsSo devices)
-      → ChangesOnlyRegistry stored v IsSo v
-  alone-unasked v IsSo is_so = record {
+  pub unchanged-unasked : (handler : HandlerValue S) (IsSo : Devices → Type 0)
+      → ((devices : Devices) → Keeps (stored handler.registry) (stored handler.registry) devices → IsSo devices)
+      → ChangesOnlyRegistry stored handler IsSo handler
+  unchanged-unasked handler IsSo is_so = record {
     same = refl;
     clean = λ honest. honest;
     reopenable = λ honest before. before;
     commits = λ honest. no_more_commits 1 refl;
-    result_for_devices = λ honest devices has. is_so devices (keeps-same (stored v.registry) devices has);
+    result_for_devices = λ honest devices has. is_so devices (keeps-same (stored handler.registry) devices has);
   }
 
-  -- if only the registry has changed
-  tries-registry : (old new : HandlerValue S) (IsSo : Devices → Type 0) (effect : State → Effect)
-      (r : Result HandlerEffect Failure) → ChangesOnlyRegistry stored old IsSo new
-      → ((devices : Devices) → IsSo devices
-      → AppliesOrFails (stored old.registry) (stored new.registry) devices (effect (state_of old devices)) r)
-      → Attempts stored old effect r new
-  tries-registry old new IsSo effect r alone applies_or_fails =
+  -- with no call of the registry
+  pub attempts-unasked : (handler : HandlerValue S) (effect : State → Effect) (result : Result HandlerEffect Failure)
+      → ((devices : Devices) → Keeps (stored handler.registry) (stored handler.registry) devices
+      → AppliesOrFails (stored handler.registry) (stored handler.registry) devices (effect
+      (state_of handler devices)) result)
+      → Attempts stored handler effect result handler
+  attempts-unasked handler effect result applies_or_fails =
+      attempts-changed_registry handler handler _ effect result (unchanged-unasked handler _ applies_or_fails)
+      (λ devices so. so)
+
+  -- if the effects are equal
+  pub attempts-same_effect : (old new : HandlerValue S) (effect other : State
+      → Effect) (result : Result HandlerEffect Failure)
+      → ((devices : Devices) → effect (state_of old devices) ≡ other (state_of old devices))
+      → Attempts stored old other result new → Attempts stored old effect result new
+  attempts-same_effect old new effect other result same attempted = record {
+    base = attempted.base;
+    mode = attempted.mode;
+    counts = attempted.counts;
+    clean = attempted.clean;
+    reopenable = attempted.reopenable;
+    commits = attempted.commits;
+    applies_or_fails = λ honest devices has.
+        rw (same devices) (attempted.applies_or_fails honest devices has);
+  }
+
+  -- after a look-up in the registry
+  pub attempts-after_look_up : (handler mid new : HandlerValue S) (registry : S) (effect other : State → Effect)
+      (result : Result HandlerEffect Failure) (id : ℕ) (found : Option Device)
+      → mid ≡ record handler { registry = registry }
+      → LooksUp {E = StoreFault} (stored handler.registry) (stored registry) id (Ok found)
+      → ((devices : Devices) → found ≡ device_of devices id
+      → effect (state_of handler devices) ≡ other (state_of handler devices))
+      → Attempts stored mid other result new → Attempts stored handler effect result new
+  attempts-after_look_up handler mid new registry effect other result id found is looks_up same tried =
+      let over : Attempts stored (record handler { registry = registry }) other result new = rw is at tried in
       record {
-        base = ap (λ (v : HandlerValue S). v.base) alone.same;
-        mode = ap (λ (v : HandlerValue S). v.mode) alone.same;
-        counts = ap (λ (v : HandlerValue S). v.counts) alone.same;
-        clean = alone.clean;
-        reopenable = alone.reopenable;
-        commits = alone.commits;
-        applies_or_fails = λ honest devices has. applies_or_fails devices (alone.result_for_devices honest devices has);
+        base = over.base;
+        mode = over.mode;
+        counts = over.counts;
+        clean = λ honest. looks_up.clean (over.clean honest);
+        reopenable = λ honest before. over.reopenable honest (looks_up.reopenable (over.clean honest));
+        commits = λ honest. more_commits_after (looks_up.commits (over.clean honest)) (over.commits honest);
+        applies_or_fails = λ honest devices has.
+            let (is_found, keeps) = looks_up.devices (over.clean honest) devices has in
+            rw (same devices is_found)
+            (applies_or_fails-after (stored handler.registry) (stored registry) (stored new.registry) devices
+            (other (state_of handler devices)) result keeps
+            (over.applies_or_fails honest devices keeps.now));
       }
+
+  -- an effect that changes no device
+  pub applies-unchanged : (old new : S) (devices : Devices) (effect : Effect) (done : HandlerEffect)
+      → effect.update ≡ None → MatchesEffect done effect → Keeps (stored old) (stored new) devices
+      → AppliesOrFails (stored old) (stored new) devices effect (Ok done)
+  applies-unchanged old new devices effect done none gives keeps = (gives, rw none keeps)
+
+  -- ---- learning and forgetting a device
 
   -- the effect by what the handler knows then is the effect by what it knew
   gives-before : (old new : HandlerValue S) (done : HandlerEffect) (effect : State → Effect) (devices : Devices)
       → new ≡ record old { registry = new.registry } → MatchesEffect done (effect (state_of new devices))
       → MatchesEffect done (effect (state_of old devices))
   gives-before old new done effect devices same =
-      subst (λ s. MatchesEffect done (effect s)) (ap (λ v. state_of v devices) same)
+      subst (λ s. MatchesEffect done (effect s)) (ap (λ handler. state_of handler devices) same)
 
   -- an update that fails
   failed-applies_or_fails : (old new : S) (devices : Devices) (effect : Effect) (update : DeviceUpdate)
@@ -392,21 +358,7 @@ module _ {S : Type 0} (stored : S → DeviceStoreState) where
       × Keeps (stored old) (stored new) devices)
       → AppliesOrFails (stored old) (stored new) devices
       (if_learned_else_error (device_of devices id) (λ it. relabel_effect id label)) (Ok done)
-  label-applies_or_fails old new devices id label known done is applies_or_fails =
-      one (get devices id) known is applies_or_fails
-    where
-      one : (it : Option DeviceData) (b : Bool) → b ≡ is_some it
-          → MatchBool b (MatchesEffect done (relabel_effect id label)
-          × Commits (stored new) (relabel_update id label) devices)
-          (MatchesEffect done (lines_effect NeedsStore (Error (error.Order UnknownDevice) ∷ []))
-          × Keeps (stored old) (stored new) devices)
-          → AppliesOrFails (stored old) (stored new) devices
-          (if_learned_else_error (option_map (device id) it) (λ it. relabel_effect id label))
-          (Ok done)
-      one (Some it) true is applies_or_fails = applies_or_fails
-      one (Some it) false is applies_or_fails = absurd (let no = is in cc)
-      one None true is applies_or_fails = absurd (let no = is in cc)
-      one None false is applies_or_fails = applies_or_fails
+  label-applies_or_fails old new devices id label known done is applies = grind arith
 
   pub label-failed : (old new : S) (devices : Devices) (id : ℕ) (label : List ℕ) (fault : StoreFault)
       → MatchBool (is_some (get devices id)) (LeavesPending (stored old) (stored new) (relabel_update id label) devices)
@@ -414,260 +366,190 @@ module _ {S : Type 0} (stored : S → DeviceStoreState) where
       → AppliesOrFails (stored old) (stored new) devices
       (if_learned_else_error (device_of devices id) (λ it. relabel_effect id label))
       (Err (AtCommit fault))
-  label-failed old new devices id label fault failed = one (get devices id) failed
-    where
-      one : (it : Option DeviceData)
-          → MatchBool (is_some it) (LeavesPending (stored old) (stored new) (relabel_update id label) devices)
-          (Keeps (stored old) (stored new) devices)
-          → AppliesOrFails (stored old) (stored new) devices
-          (if_learned_else_error (option_map (device id) it) (λ it. relabel_effect id label))
-          (Err (AtCommit fault))
-      one (Some it) pends = pends
-      one None keeps = (permitted NeedsStore (cause_of fault) refl, keeps)
+  label-failed old new devices id label fault failed = grind arith
 
-  -- a device is not learned: if the registry is full, nothing is written
-  if_full_of_others_else-pending : (old new : S) (devices : Devices) (known : Device) (full done : Effect)
-      → Adds known full done
-      → (cause : Cause) → MatchBool (is_full_for devices known.id) (Keeps (stored old) (stored new) devices)
-      (LeavesPending (stored old) (stored new) (learn_update known) devices)
-      → IsPending (stored old) (stored new) devices (if_full_of_others_else devices known full done).need cause
-      (if_full_of_others_else devices known full done).update
-  if_full_of_others_else-pending old new devices known full done adds cause state_after_failure =
-      one (is_full_for devices known.id) state_after_failure
-    where
-      one : (b : Bool)
-          → MatchBool b (Keeps (stored old) (stored new) devices)
-          (LeavesPending (stored old) (stored new) (learn_update known) devices)
-          → let e : Effect = if b then full else done in
-          IsPending (stored old) (stored new) devices e.need cause e.update
-      one true keeps = rw adds.stays (permitted full.need cause adds.full_needs, keeps)
-      one false pends = rw adds.learns pends
+  module _ (old new : HandlerValue S) (known : Device) (effects : LearnEffects known) where
+    learn-need : (devices : Devices) → (learn_effect known effects (state_of old devices)).need ≡ NeedsStore
+    learn-need devices =
+        let state = state_of old devices in
+        if_full_of_others_else-need devices known (effects.full state) (effects.done state) (effects.full_needs state)
+        (effects.done_needs state)
 
-  module _ (old new : HandlerValue S) (known : Device) (full done : State → Effect)
-      (adds : (devices : Devices) → Adds known (full (state_of old devices)) (done (state_of old devices))) where
-    pub tries-failed : (failure : Failure) → TriesToLearn stored old known (Err failure) new
-        → Attempts stored old (λ state. if_full_of_others_else state.devices known (full state) (done state))
-        (Err failure)
-        new
-    tries-failed (BeforeCommit fault) learns =
-        tries-registry old new _ _ _ learns.changes_only_registry
-        (λ devices keeps.
-        let all = adds devices in (
-          permitted _ (cause_of fault) (if_full_of_others_else-need devices known _ _ all.full_needs all.done_needs),
-          keeps,
-        ))
-    tries-failed (AtCommit fault) learns =
-        tries-registry old new _ _ _ learns.changes_only_registry
-        (λ devices pends.
-        if_full_of_others_else-pending old.registry new.registry devices known (full (state_of old devices))
-        (done (state_of old devices)) (adds devices) (cause_of fault) pends)
+    -- if the registry is full, nothing is written
+    learn-pending : (devices : Devices) (cause : Cause)
+        → MatchBool (is_full_for devices known.id) (Keeps (stored old.registry) (stored new.registry) devices)
+        (LeavesPending (stored old.registry) (stored new.registry) (learn_update known) devices)
+        → let e = learn_effect known effects (state_of old devices) in
+        IsPending (stored old.registry) (stored new.registry) devices e.need cause e.update
+    learn-pending devices cause failed =
+        let state = state_of old devices in
+        let unchanging = effects.full_unchanging state in
+        let learns = effects.learns state in
+        let needs = effects.full_needs state in
+        grind arith
 
-    pub tries-full : (made : HandlerEffect) → TriesToLearn stored old known (Ok None) new
-        → ((devices : Devices) → MatchesEffect made (full (state_of new devices)))
-        → Attempts stored old (λ state. if_full_of_others_else state.devices known (full state) (done state))
-        (Ok made) new
-    tries-full made learns gives =
-        tries-registry old new _ _ _ learns.changes_only_registry
+    pub attempts-learn_failed : (failure : Failure) → TriesToLearn stored old known (Err failure) new
+        → Attempts stored old (learn_effect known effects) (Err failure) new
+    attempts-learn_failed (BeforeCommit fault) learns =
+        attempts-changed_registry old new _ _ _ learns.changes_only_registry
+        (λ devices keeps. (permitted _ (cause_of fault) (learn-need devices), keeps))
+    attempts-learn_failed (AtCommit fault) learns =
+        attempts-changed_registry old new _ _ _ learns.changes_only_registry
+        (λ devices pends. learn-pending devices (cause_of fault) pends)
+
+    pub attempts-registry_full : (made : HandlerEffect) → TriesToLearn stored old known (Ok None) new
+        → ((devices : Devices) → MatchesEffect made (effects.full (state_of new devices)))
+        → Attempts stored old (learn_effect known effects) (Ok made) new
+    attempts-registry_full made learns gives =
+        attempts-changed_registry old new _ _ _ learns.changes_only_registry
         (λ devices (is, keeps).
-        rw (is, (adds devices).stays)
-        (gives-before old new made full devices learns.changes_only_registry.same (gives devices), keeps))
+        rw (is, effects.full_unchanging (state_of old devices))
+        (gives-before old new made effects.full devices learns.changes_only_registry.same (gives devices), keeps))
 
     -- out of memory for the line that reports it
-    pub tries-unacknowledged : (fault : StoreFault) → TriesToLearn stored old known (Ok None) new
-        → Attempts stored old (λ state. if_full_of_others_else state.devices known (full state) (done state))
-        (Err (BeforeCommit fault)) new
-    tries-unacknowledged fault learns =
-        tries-registry old new _ _ _ learns.changes_only_registry
-        (λ devices (is, keeps).
-        let all = adds devices in (
-          permitted _ (cause_of fault) (if_full_of_others_else-need devices known _ _ all.full_needs all.done_needs),
-          keeps,
-        ))
+    pub attempts-full_unreported : (fault : StoreFault) → TriesToLearn stored old known (Ok None) new
+        → Attempts stored old (learn_effect known effects) (Err (BeforeCommit fault)) new
+    attempts-full_unreported fault learns =
+        attempts-changed_registry old new _ _ _ learns.changes_only_registry
+        (λ devices (is, keeps). (permitted _ (cause_of fault) (learn-need devices), keeps))
 
-    pub tries-learned : (committed : Verdict × List ℕ) (made : HandlerEffect)
+    pub attempts-learned : (committed : Verdict × List ℕ) (made : HandlerEffect)
         → TriesToLearn stored old known (Ok (Some committed)) new
-        → ((devices : Devices) → MatchesEffect made (done (state_of new devices)))
-        → Attempts stored old (λ state. if_full_of_others_else state.devices known (full state) (done state))
-        (Ok made) new
-    tries-learned committed made learns gives =
-        tries-registry old new _ _ _ learns.changes_only_registry
+        → ((devices : Devices) → MatchesEffect made (effects.done (state_of new devices)))
+        → Attempts stored old (learn_effect known effects) (Ok made) new
+    attempts-learned committed made learns gives =
+        attempts-changed_registry old new _ _ _ learns.changes_only_registry
         (λ devices (is, commits).
-        rw (is, (adds devices).learns)
-        (gives-before old new made done devices learns.changes_only_registry.same (gives devices), commits))
+        rw (is, effects.learns (state_of old devices))
+        (gives-before old new made effects.done devices learns.changes_only_registry.same (gives devices), commits))
 
   module _ (old new : HandlerValue S) (line : TeachLine) (effect : State → Effect)
-      (drops : (devices : Devices) → Drops line.id (effect (state_of old devices))) where
-    pub tries-unforgotten : (failure : Failure) → TriesToForget stored old line (Err failure) new
-        → Attempts stored old effect (Err failure) new
-    tries-unforgotten failure forgets =
-        tries-registry old new _ _ _ forgets.changes_only_registry
-        (λ devices.
-        let all = drops devices in
-        failed-applies_or_fails old.registry new.registry devices (effect (state_of old devices))
-        (forget_update line.id) failure
-        all.needs all.forgets)
+      (forgets : (devices : Devices) → (effect (state_of old devices)).update ≡ Some (forget_update line.id)) where
+    pub attempts-forget_failed : (failure : Failure)
+        → ((devices : Devices) → (effect (state_of old devices)).need ≡ NeedsStore)
+        → TriesToForget stored old line (Err failure) new → Attempts stored old effect (Err failure) new
+    attempts-forget_failed failure needs tried =
+        attempts-changed_registry old new _ _ _ tried.changes_only_registry
+        (λ devices. failed-applies_or_fails old.registry new.registry devices (effect (state_of old devices))
+        (forget_update line.id) failure (needs devices) (forgets devices))
 
-    pub tries-forgotten : (committed : Verdict × List ℕ) (made : HandlerEffect)
+    pub attempts-forgotten : (committed : Verdict × List ℕ) (made : HandlerEffect)
         → TriesToForget stored old line (Ok committed) new
         → ((devices : Devices) → MatchesEffect made (effect (state_of new devices)))
         → Attempts stored old effect (Ok made) new
-    tries-forgotten committed made forgets gives =
-        tries-registry old new _ _ _ forgets.changes_only_registry
+    attempts-forgotten committed made tried gives =
+        attempts-changed_registry old new _ _ _ tried.changes_only_registry
         (λ devices commits.
-        rw ((drops devices).forgets)
-        (gives-before old new made effect devices forgets.changes_only_registry.same (gives devices), commits))
-
-  -- an order's telegram is sent, or an error reports why there is none
-  pub telegram-applies_or_fails : (old new : S) (devices : Devices) (asked : Bool)
-      (telegram : Option (Result Telegram OrderFault)) (done : HandlerEffect)
-      → MatchesEffect done (send_result_effect asked telegram)
-      → Keeps (stored old) (stored new) devices
-      → AppliesOrFails (stored old) (stored new) devices (send_result_effect asked telegram) (Ok done)
-  telegram-applies_or_fails old new devices asked (Some (Ok t)) done gives keeps = (gives, keeps)
-  telegram-applies_or_fails old new devices asked (Some (Err fault)) done gives keeps = (gives, keeps)
-  telegram-applies_or_fails old new devices asked None done gives keeps = (gives, keeps)
-
-  -- the window is opened, or the profile is not supported
-  pub opens-applies_or_fails : (old new : S) (devices : Devices) (eep : Eep) (done : HandlerEffect)
-      → MatchesEffect done (if_supported_else_error eep (mode_effect (LearnAs eep)))
-      → Keeps (stored old) (stored new) devices
-      → AppliesOrFails (stored old) (stored new) devices (if_supported_else_error eep (mode_effect (LearnAs eep)))
-      (Ok done)
-  opens-applies_or_fails old new devices eep done gives keeps =
-      one (supported eep) gives
-    where
-      one : (b : Bool) → let e : Effect =
-          if b then mode_effect (LearnAs eep) else error_effect error.UnsupportedProfile in
-          MatchesEffect done e → AppliesOrFails (stored old) (stored new) devices e (Ok done)
-      one true gives = (gives, keeps)
-      one false gives = (gives, keeps)
+        rw (forgets devices)
+        (gives-before old new made effect devices tried.changes_only_registry.same (gives devices), commits))
 
   -- the order of a line
-  pub tries-order : (old new : HandlerValue S) (line : List ℕ) (r : Result HandlerEffect Failure)
+  pub attempts-order : (old new : HandlerValue S) (line : List ℕ) (result : Result HandlerEffect Failure)
       (order : Result Order OrderFault) → length line ≤ max_line → order_of line ≡ order
-      → Attempts stored old (λ state. order_effect state order) r new
-      → Attempts stored old (λ state. line_effect state line) r new
-  tries-order old new line r order short is tried =
-      tries-same old new (λ state. line_effect state line) (λ state. order_effect state order) r
+      → Attempts stored old (λ state. order_effect state order) result new
+      → Attempts stored old (λ state. line_effect state line) result new
+  attempts-order old new line result order short is tried =
+      attempts-same_effect old new (λ state. line_effect state line) (λ state. order_effect state order) result
       (λ devices. rw (le-ltb max_line (length line) short, is) refl) tried
 
   -- ---- an input that was tried is handled
 
   -- an update that is committed, if any
-  made-now : (old new : S) (devices : Devices) (update : Option DeviceUpdate)
+  committed-now : (old new : S) (devices : Devices) (update : Option DeviceUpdate)
       → IsUpdateCommitted (stored old) (stored new) devices update
       → (stored new).holds (with_update devices update)
-  made-now old new devices None keeps = keeps.now
-  made-now old new devices (Some update) commits = commits.now
+  committed-now old new devices update committed = grind arith
 
-  made-safe : (old new : S) (devices : Devices) (update : Option DeviceUpdate)
+  committed-crash : (old new : S) (devices : Devices) (update : Option DeviceUpdate)
       → IsUpdateCommitted (stored old) (stored new) devices update
       → (left : Devices) → (stored new).may_recover left
       → IsCrashConsistent (stored old).may_recover (after_committed_update nothing_committed_yet devices update) left
-  made-safe old new devices None keeps left may = inr (refl, keeps.crash left may)
-  made-safe old new devices (Some update) commits left may = inl (inl (commits.crash left may))
+  committed-crash old new devices None keeps left may = inr (refl, keeps.crash left may)
+  committed-crash old new devices (Some update) commits left may = inl (inl (commits.crash left may))
 
-  at_write-went : (old new : HandlerValue S) (start : State) (input : Input) (cause : Cause)
-      (update : Option DeviceUpdate)
-      → update_of start input ≡ update → new.base ≡ start.base → new.mode ≡ start.mode
-      → new.counts ≡ (state_after_failure start).counts
-      → IsPending (stored old.registry) (stored new.registry) start.devices
-      (need_of_memory_or_store start input) cause update
+  handles-failed : (old new : HandlerValue S) (start : State) (input : Input) (cause : Cause)
+      → new.base ≡ start.base → new.mode ≡ start.mode → new.counts ≡ (state_after_failure start).counts
+      → MayFailFor (need_of_memory_or_store start input) cause
+      → Keeps (stored old.registry) (stored new.registry) start.devices
       → HandlesFrom stored old start (input ∷ []) (failure_answer input cause ∷ []) new
-  at_write-went old new start input cause None asks base mode counts (need, keeps) = record {
+  handles-failed old new start input cause base mode counts need keeps = record {
     results = Failed cause ∷ [];
     last = state_after_failure start;
     run = (need, refl, refl);
     at = (base, mode, keeps.now, counts);
     crash = λ left may. inr (refl, keeps.crash left may);
   }
-  at_write-went old new start input cause (Some update) asks base mode counts pends = record {
+
+  handles-failed_at_commit : (old new : HandlerValue S) (start : State) (input : Input) (cause : Cause)
+      (update : Option DeviceUpdate)
+      → update_of start input ≡ update → new.base ≡ start.base → new.mode ≡ start.mode
+      → new.counts ≡ (state_after_failure start).counts
+      → IsPending (stored old.registry) (stored new.registry) start.devices
+      (need_of_memory_or_store start input) cause update
+      → HandlesFrom stored old start (input ∷ []) (failure_answer input cause ∷ []) new
+  handles-failed_at_commit old new start input cause None asks base mode counts (need, keeps) =
+      handles-failed old new start input cause base mode counts need keeps
+  handles-failed_at_commit old new start input cause (Some update) asks base mode counts pends = record {
     results = FailedAtCommit cause ∷ [];
     last = state_after_failure start;
-    run = (subst (λ o. IsSome o) (sym asks) refl, refl, refl);
+    run = (rw asks refl, refl, refl);
     at = (base, mode, pends.now, counts);
-    crash = λ left may. subst (λ o. IsCrashConsistent (stored old.registry).may_recover
-        (with_pending_update nothing_committed_yet start.devices o) left)
-        (sym asks)
+    crash = λ left may. rw asks
         (elim (pends.crash left may) [ inl before ↦ inr (refl, before) | inr is ↦ inl (inl is) ]);
   }
 
-  applies_or_fails-went : (old new : HandlerValue S) (start : State) (input : Input) (r : Result HandlerEffect Failure)
+  handles-applied_or_failed : (old new : HandlerValue S) (start : State) (input : Input)
+      (result : Result HandlerEffect Failure)
       → new.base ≡ start.base
-      → new.mode ≡ mode_from start.mode r
-      → new.counts ≡ counts_from start.counts r
-      → AppliesOrFails (stored old.registry) (stored new.registry) start.devices (effect start input) r
-      → HandlesFrom stored old start (input ∷ []) (explained_answer_to input r ∷ []) new
-  applies_or_fails-went old new start input (Ok done) base mode counts ((says, counted, mode_effect), made) = record {
-    results = Applied ∷ [];
-    last = state_after_applied_input start input;
-    run = (
-      tt,
-      ap (λ a. with_packet_line (packet_line_for input a) done.answer) counted
-          ∙ ap (with_packet_line (packet_line_for input (effect start input).disposition)) says,
-      refl,
-    );
-    at = (
-      base,
-      mode ∙ ap (with_mode start.mode) mode_effect,
-      made-now old.registry new.registry start.devices (update_of start input) made,
-      counts
-          ∙ ap (λ a. increment_if_any start.counts (counter_in a)) counted,
-    );
-    crash = made-safe old.registry new.registry start.devices (update_of start input) made;
-  }
-  applies_or_fails-went old new start input (Err (BeforeCommit fault)) base mode counts (need, keeps) = record {
-    results = Failed (cause_of fault) ∷ [];
-    last = state_after_failure start;
-    run = (need, refl, refl);
-    at = (base, mode, keeps.now, counts);
-    crash = λ left may. inr (refl, keeps.crash left may);
-  }
-  applies_or_fails-went old new start input (Err (AtCommit fault)) base mode counts with_pending_update =
-      at_write-went old new start input (cause_of fault)
-      (update_of start input) refl base mode counts with_pending_update
+      → new.mode ≡ mode_from start.mode result
+      → new.counts ≡ counts_from start.counts result
+      → AppliesOrFails (stored old.registry) (stored new.registry) start.devices (effect start input) result
+      → HandlesFrom stored old start (input ∷ []) (explained_answer_to input result ∷ []) new
+  handles-applied_or_failed old new start input (Ok done) base mode counts
+      ((says, counted, mode_effect), made) = record {
+        results = Applied ∷ [];
+        last = state_after_applied_input start input;
+        run = (
+          tt,
+          ap (λ a. with_packet_line (packet_line_for input a) done.answer) counted
+              ∙ ap (with_packet_line (packet_line_for input (effect start input).disposition)) says,
+          refl,
+        );
+        at = (
+          base,
+          mode ∙ ap (with_mode start.mode) mode_effect,
+          committed-now old.registry new.registry start.devices (update_of start input) made,
+          counts
+              ∙ ap (λ a. increment_if_any start.counts (counter_in a)) counted,
+        );
+        crash = committed-crash old.registry new.registry start.devices (update_of start input) made;
+      }
+  handles-applied_or_failed old new start input (Err (BeforeCommit fault)) base mode counts (need, keeps) =
+      handles-failed old new start input (cause_of fault) base mode counts need keeps
+  handles-applied_or_failed old new start input (Err (AtCommit fault)) base mode counts pending =
+      handles-failed_at_commit old new start input (cause_of fault)
+      (update_of start input) refl base mode counts pending
 
-  -- the input that was tried is finished: it is counted
-  pub record Settles (mid : HandlerValue S) (input : Input) (r : Result HandlerEffect Failure) (answer : Answer)
-      (new : HandlerValue S) : Type 0 where
-    pub answer_is : answer ≡ explained_answer_to input r
-    pub base : new.base ≡ mid.base
-    pub mode : new.mode ≡ mode_from mid.mode r
-    pub counts : new.counts ≡ counts_from mid.counts r
-    pub registry : new.registry ≡ mid.registry
-
-  pub tries-handles : (old mid new : HandlerValue S) (input : Input) (r : Result HandlerEffect Failure)
+  -- an input that was tried is finished: it is counted, and its mode is set
+  pub handles-attempted : (old mid new : HandlerValue S) (input : Input) (result : Result HandlerEffect Failure)
       (answer : Answer)
-      → Settles mid input r answer new
-      → Attempts stored old (λ state. effect state input) r mid
+      → answer ≡ explained_answer_to input result → new.base ≡ mid.base → new.mode ≡ mode_from mid.mode result
+      → new.counts ≡ counts_from mid.counts result → new.registry ≡ mid.registry
+      → Attempts stored old (λ state. effect state input) result mid
       → Handles stored old (input ∷ []) (answer ∷ []) new
-  tries-handles old mid new input r answer settles tried =
-      let Over =
-      λ (registry : S). Attempts stored old (λ state. effect state input) r (record mid { registry = registry }) in
-      let over : Over new.registry = subst Over (sym settles.registry) tried in
+  handles-attempted old mid new input result answer answer_is base mode counts registry tried =
+      let over : Attempts stored old (λ state. effect state input) result (record mid { registry = new.registry }) =
+      rw registry tried in
       record {
-        base = settles.base ∙ over.base;
+        base = base ∙ over.base;
         clean = over.clean;
         reopenable = over.reopenable;
         commits = over.commits;
         ran_from_any = λ honest start at.
-            let come = over.applies_or_fails honest start.devices at.2 in
-            let Here = λ (s : State).
-            AppliesOrFails (stored old.registry) (stored new.registry) start.devices (effect s input) r in
-            let here : Here start = subst Here (same old start at.0 at.1 at.3) come in
-            subst (λ a. HandlesFrom stored old start (input ∷ []) (a ∷ []) new) (sym settles.answer_is)
-            (applies_or_fails-went old new start input r (settles.base ∙ tried.base ∙ at.0)
-            (settles.mode ∙ ap (λ m. mode_from m r) (tried.mode ∙ at.1))
-            (settles.counts ∙ ap (λ c. counts_from c r) (tried.counts ∙ at.3)) here);
+            let known : state_of old start.devices ≡ start = rw (at.0, at.1, at.3) in
+            let applies_or_fails = rw known at (over.applies_or_fails honest start.devices at.2) in
+            rw answer_is
+            (handles-applied_or_failed old new start input result (base ∙ tried.base ∙ at.0)
+            (mode ∙ ap (λ m. mode_from m result) (tried.mode ∙ at.1))
+            (counts ∙ ap (λ c. counts_from c result) (tried.counts ∙ at.3)) applies_or_fails);
       }
-    where
-      -- what the gateway knows is what the handler knows over these devices
-      same : (v : HandlerValue S) (start : State) → v.base ≡ start.base → v.mode ≡ start.mode
-          → v.counts ≡ start.counts → state_of v start.devices ≡ start
-      same v start base mode counts =
-          ap (λ b. let s : State = record { base = b; mode = v.mode; counts = v.counts; devices = start.devices } in s)
-          base
-          ∙ ap (λ m. let s : State =
-          record { base = start.base; mode = m; counts = v.counts; devices = start.devices } in s) mode
-          ∙ ap (λ c. let s : State =
-          record { base = start.base; mode = start.mode; counts = c; devices = start.devices } in s) counts

@@ -1,6 +1,6 @@
 -- Numbers read from bits and from bytes, and the packets of a stream of bytes.
 use Rattle.std.proofs.Common.{◌≡◌, ℕ, zero, suc, ◌*◌, ◌<◌, ◌≤◌, ◌^◌, List, [], ◌∷◌, ◌++◌, length, take, drop, map, sym}
-use Rattle.std.proofs.Common.{subst, arith, append_assoc, lit<}
+use Rattle.std.proofs.Common.{length-take, subst, arith, append_assoc, lit<, rules}
 use Rattle.std.specs.Prelude.{slice_index}
 use Rattle.std.specs.Int.{w32, from_be_bytes}
 use Rattle.std.specs.List.{All, AllByRecursion}
@@ -27,13 +27,7 @@ AreBits (x ∷ xs) = (x < 2) × AreBits xs
 bits-are : (bytes : List ℕ) → AreBits (bits bytes)
 unfolding bits byte_bits
 bits-are [] = tt
-bits-are (b ∷ bytes) = (
-  omega arith,
-  (
-    omega arith,
-    (omega arith, (omega arith, (omega arith, (omega arith, (omega arith, (omega arith, bits-are bytes)))))),
-  ),
-)
+bits-are (b ∷ bytes) = search (rules, bits-are bytes) parts 10
 
 drop-bits : (k : ℕ) (xs : List ℕ) → AreBits xs → AreBits (drop k xs)
 drop-bits zero xs are = are
@@ -44,11 +38,6 @@ take-bits : (k : ℕ) (xs : List ℕ) → AreBits xs → AreBits (take k xs)
 take-bits zero xs are = tt
 take-bits (suc k) [] are = tt
 take-bits (suc k) (x ∷ xs) are = (are.0, take-bits k xs are.1)
-
-take-few : (k : ℕ) (xs : List ℕ) → length (take k xs) ≤ k
-take-few zero xs = omega arith
-take-few (suc k) [] = omega arith
-take-few (suc k) (x ∷ xs) = omega (arith, take-few k xs)
 
 number-below : (xs : List ℕ) → AreBits xs → number xs < 2 ^ length xs
 unfolding number
@@ -66,7 +55,7 @@ field-below bytes offset len =
     let part = take len (drop offset (bits bytes)) in
     let below : number part < 2 ^ length part =
     number-below part (take-bits len (drop offset (bits bytes)) (drop-bits offset (bits bytes) (bits-are bytes))) in
-    let few : length part ≤ len = take-few len (drop offset (bits bytes)) in
+    let few : length part ≤ len = omega (arith, length-take {A = ℕ}) in
     let up : 2 ^ length part ≤ 2 ^ len = pow-le-pow_right {n = 2} (omega arith) (omega arith) in
     omega (arith, below, up)
 
@@ -94,19 +83,23 @@ back-bytes (x ∷ front) behind all = back-bytes front behind (λ k d h. all (su
 abbrev HasByteData : Packet → Type 0
 HasByteData packet = AreBytes packet.body
 
-found-bytes : (w front s : List ℕ) (p : Packet) → IsPacket p front → w ≡ front ++ s → AreBytes w
-    → HasByteData p × AreBytes s
-found-bytes w front s p whole is all =
-    let parts : AreBytes (front ++ s) = subst AreBytes is all in
-    let packet = subst AreBytes whole.bytes (front-bytes front s parts) in
-    let behind = back-bytes (0x55 ∷ header p ++ check (header p) ∷ []) (p.body ++ p.opt ++ check (p.body ++ p.opt) ∷ [])
-    packet in (
-      front-bytes p.body p.opt (front-bytes (p.body ++ p.opt) (check (p.body ++ p.opt) ∷ []) behind),
-      back-bytes front s parts,
+found-bytes : (stream front behind : List ℕ) (packet : Packet) → IsPacket packet front → stream ≡ front ++ behind
+    → AreBytes stream
+    → HasByteData packet × AreBytes behind
+found-bytes stream front behind packet whole is all =
+    let parts : AreBytes (front ++ behind) = subst AreBytes is all in
+    let bytes = subst AreBytes whole.bytes (front-bytes front behind parts) in
+    let body = back-bytes (0x55 ∷ header packet ++ check (header packet) ∷ []) (packet.body ++ packet.opt ++ check
+    (packet.body ++ packet.opt) ∷ [])
+    bytes in (
+      front-bytes packet.body packet.opt (front-bytes (packet.body ++ packet.opt) (check
+          (packet.body ++ packet.opt) ∷ []) body),
+      back-bytes front behind parts,
     )
 
-framed-bytes : {s : List ℕ} {ps : List Packet} {rest : List ℕ} → Framing s ps rest → AreBytes s
-    → AllByRecursion HasByteData ps
+framed-bytes : {stream : List ℕ} {packets : List Packet} {rest : List ℕ} → Framing stream packets rest
+    → AreBytes stream
+    → AllByRecursion HasByteData packets
 framed-bytes (ends may) all = tt
 framed-bytes (skips never framing) all = framed-bytes framing (λ k d h. all (suc k) d (omega (arith, h)))
 framed-bytes (finds whole is framing) all =

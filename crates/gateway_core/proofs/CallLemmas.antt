@@ -1,109 +1,85 @@
 -- The calls of a gateway are a run.
-use Rattle.std.proofs.Common.{◌≡◌, ℕ, suc, ◌<◌, List, [], ◌∷◌, ◌++◌, length, take, refl, ap, sym, subst, ◌∙◌}
-use Rattle.std.proofs.Common.{append_assoc, arith, append-nil, Some, None}
+use Rattle.std.proofs.Common.{◌≡◌, ℕ, suc, ◌<◌, List, [], ◌∷◌, ◌++◌, length, take, refl, ap, sym, ◌∙◌, append_assoc}
+use Rattle.std.proofs.Common.{arith, append-nil, Some, None, subst}
 use Rattle.learned_devices.specs.DeviceStoreState.{DeviceStoreState}
 use Rattle.esp3_frames.specs.Packet.{Packet}
 use Rattle.esp3_frames.specs.PacketsAndRest.{packets_in, rest_of}
 use Rattle.esp3_frames.proofs.ForCallers.{framing_in_parts, packets_and_rest-may_become, empty_may_become}
 use Rattle.gateway_core.specs.Step.{Input, Received, Ordered}
-use Rattle.gateway_core.specs.Handling.{HandlerValue, Handles}
-use Rattle.gateway_core.specs.Calls.{GatewayValue, Call, Bytes, Next, Order, Transition, Transitions, bytes_of}
-use Rattle.gateway_core.specs.Calls.{answers_of, AreInputs, CallsAreARun, BytesOneByOne}
-use Rattle.gateway_core.proofs.RunLemmas.{handles-nothing, handles-append}
+use Rattle.gateway_core.specs.Handling.{Handles, HandlerValue}
+use Rattle.gateway_core.specs.Calls.{GatewayValue, Call, Bytes, Next, Order, Transitions, bytes_of, answers_of}
+use Rattle.gateway_core.specs.Calls.{AreInputs, CallsAreARun, BytesOneByOne}
+use Rattle.gateway_core.proofs.HandlesLemmas.{handles-nothing, handles-append}
+use Rattle.gateway_core.proofs.ChunkLemmas.{rest_goes_on}
+
+-- no packet is complete in these bytes
+abbrev IsRest : List ℕ → Type 0
+IsRest rest = ([] ≡ packets_in rest) × (rest ≡ rest_of rest)
+
+rest-is_rest : (stream : List ℕ) → IsRest (rest_of stream)
+rest-is_rest stream = packets_and_rest-may_become (rest_of stream) (rest_goes_on stream)
 
 module _ {S : Type 0} (stored : S → DeviceStoreState) where
-  -- the stream so far consists of the packets handled, those that are ready, and the rest
-  record Stands (stream : List ℕ) (before : List Packet) (v : GatewayValue S) : Type 0 where
-    pub packets : packets_in stream ≡ before ++ v.ready
-    pub rest : rest_of stream ≡ v.rest
+  -- the theorem, from any gateway
+  record GoesOn (old : GatewayValue S) (calls : List Call) (new : GatewayValue S) : Type 0 where
+    handled : List Packet
+    inputs : List Input
+    packets : old.ready ++ packets_in (old.rest ++ bytes_of calls) ≡ handled ++ new.ready
+    rest : rest_of (old.rest ++ bytes_of calls) ≡ new.rest
+    in_order : AreInputs calls handled inputs
+    run : Handles stored old.handler inputs (answers_of calls) new.handler
 
-  -- the theorem, from the middle of a stream
-  record GoesOn (stream : List ℕ) (before : List Packet) (old : GatewayValue S) (calls : List Call)
-      (new : GatewayValue S) : Type 0 where
-    pub handled : List Packet
-    pub inputs : List Input
-    pub packets : packets_in (stream ++ bytes_of calls) ≡ before ++ (handled ++ new.ready)
-    pub rest : rest_of (stream ++ bytes_of calls) ≡ new.rest
-    pub in_order : AreInputs calls handled inputs
-    pub run : Handles stored old.handler inputs (answers_of calls) new.handler
-
-  stands_after_bytes : (stream : List ℕ) (before : List Packet) (old mid : GatewayValue S) (bytes : List ℕ)
-      → Stands stream before old
-      → Transition stored old (Bytes bytes) mid → Stands (stream ++ bytes) before mid
-  stands_after_bytes stream before old mid bytes stands (none, same, ready, rest) =
-      let parts = framing_in_parts stream bytes in
-      record {
-        packets =
-            parts.0 ∙ ap (λ ps. ps ++ packets_in (rest_of stream ++ bytes))
-            (stands.packets ∙ ap (λ ps. before ++ ps) none ∙ append-nil before)
-            ∙ ap (λ r. before ++ packets_in (r ++ bytes)) stands.rest ∙ ap (λ ps. before ++ ps) (sym ready);
-        rest = parts.1 ∙ ap (λ r. rest_of (r ++ bytes)) stands.rest ∙ sym rest;
-      }
-
-  goes_on : (stream : List ℕ) (before : List Packet) (old : GatewayValue S) (calls : List Call) (new : GatewayValue S)
-      → Stands stream before old → Transitions stored old calls new → GoesOn stream before old calls new
-  goes_on stream before old [] new stands move = record {
+  goes_on : (old : GatewayValue S) (calls : List Call) (new : GatewayValue S) → IsRest old.rest
+      → Transitions stored old calls new → GoesOn old calls new
+  goes_on old [] new is_rest same = record {
     handled = [];
     inputs = [];
-    packets = rw (append-nil, move) stands.packets;
-    rest = rw (append-nil, move) stands.rest;
+    packets = rw (same, append-nil old.rest, sym is_rest.0, append-nil old.ready);
+    rest = rw (same, append-nil old.rest) (sym is_rest.1);
     in_order = (refl, refl);
-    run = let P : GatewayValue S → Type 0 =
-        λ v. Handles stored old.handler [] [] v.handler in subst P (sym move) (handles-nothing stored old.handler);
+    run = rw same (handles-nothing stored old.handler);
   }
-  goes_on stream before old (Bytes bytes ∷ calls) new stands (mid, move, moves) =
-      let on =
-      goes_on (stream ++ bytes) before mid calls new (stands_after_bytes stream before old mid bytes stands move)
-      moves in
-      let along : (stream ++ bytes) ++ bytes_of calls ≡ stream ++ (bytes ++ bytes_of calls) =
-      append_assoc stream bytes (bytes_of calls) in
+  goes_on old (Bytes bytes ∷ calls) new is_rest (mid, (none, same, ready, rest), moves) =
+      let on = goes_on mid calls new (rw rest (rest-is_rest (old.rest ++ bytes))) moves in
+      let parts = framing_in_parts (old.rest ++ bytes) (bytes_of calls) in
+      let joined = append_assoc old.rest bytes (bytes_of calls) in
       record {
         handled = on.handled;
         inputs = on.inputs;
-        packets = ap packets_in (sym along) ∙ on.packets;
-        rest = ap rest_of (sym along) ∙ on.rest;
+        packets = cc (joined, parts.0, none, on.packets);
+        rest = cc (joined, parts.1, on.rest);
         in_order = on.in_order;
         run = let P : HandlerValue S → Type 0 =
-            λ s. Handles stored s on.inputs (answers_of calls) new.handler in subst P move.1 on.run;
+            λ handler. Handles stored handler on.inputs (answers_of calls) new.handler in subst P same on.run;
       }
-  goes_on stream before old (Next None ∷ calls) new stands (mid, (none, same), moves) =
-      let from : Stands stream before mid =
-      let P : GatewayValue S → Type 0 = λ v. Stands stream before v in subst P (sym same) stands in
-      let on = goes_on stream before mid calls new from moves in
+  goes_on old (Next None ∷ calls) new is_rest (mid, (none, same), moves) =
+      let on = goes_on old calls new is_rest (rw same at moves) in
       record {
         handled = on.handled;
         inputs = on.inputs;
         packets = on.packets;
         rest = on.rest;
         in_order = on.in_order;
-        run = let P : GatewayValue S → Type 0 =
-            λ v. Handles stored v.handler on.inputs (answers_of calls) new.handler in subst P same on.run;
+        run = on.run;
       }
-  goes_on stream before old (Next (Some answer) ∷ calls) new stands
-      (mid, (packet, first, rest, handles), moves) =
-      let from : Stands stream (before ++ packet ∷ []) mid = record {
-        packets = stands.packets ∙ ap (λ ps. before ++ ps) first ∙ sym (append_assoc before (packet ∷ []) mid.ready);
-        rest = stands.rest ∙ sym rest;
-      } in
-      let on = goes_on stream (before ++ packet ∷ []) mid calls new from moves in
+  goes_on old (Next (Some answer) ∷ calls) new is_rest (mid, (packet, first, rest, handles), moves) =
+      let on = goes_on mid calls new (rw rest is_rest) moves in
       record {
         handled = packet ∷ on.handled;
         inputs = Received packet ∷ on.inputs;
-        packets = on.packets ∙ append_assoc before (packet ∷ []) (on.handled ++ new.ready);
-        rest = on.rest;
+        packets = cc (on.packets);
+        rest = cc (on.rest);
         in_order = (refl, on.in_order);
         run = handles-append stored old.handler mid.handler new.handler (Received packet ∷ []) on.inputs (answer ∷ [])
             (answers_of calls) handles on.run;
       }
-  goes_on stream before old (Order line answer ∷ calls) new stands (mid, (ready, rest, handles), moves) =
-      let from : Stands stream before mid =
-      record { packets = stands.packets ∙ ap (λ ps. before ++ ps) (sym ready); rest = stands.rest ∙ sym rest } in
-      let on = goes_on stream before mid calls new from moves in
+  goes_on old (Order line answer ∷ calls) new is_rest (mid, (ready, rest, handles), moves) =
+      let on = goes_on mid calls new (rw rest is_rest) moves in
       record {
         handled = on.handled;
         inputs = Ordered line ∷ on.inputs;
-        packets = on.packets;
-        rest = on.rest;
+        packets = cc (on.packets);
+        rest = cc (on.rest);
         in_order = (refl, on.in_order);
         run = handles-append stored old.handler mid.handler new.handler (Ordered line ∷ []) on.inputs (answer ∷ [])
             (answers_of calls) handles on.run;
@@ -111,8 +87,7 @@ module _ {S : Type 0} (stored : S → DeviceStoreState) where
 
   pub calls_are_a_run : CallsAreARun stored
   calls_are_a_run base registry calls new moves =
-      let empty = packets_and_rest-may_become [] empty_may_become in
-      let on = goes_on [] [] _ calls new (record { packets = sym empty.0; rest = sym empty.1 }) moves in
+      let on = goes_on _ calls new (packets_and_rest-may_become [] empty_may_become) moves in
       record {
         handled = on.handled;
         inputs = on.inputs;

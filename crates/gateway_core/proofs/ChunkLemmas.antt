@@ -1,97 +1,89 @@
--- The inputs of events, by the bytes between their lines.
-use Rattle.std.proofs.Common.{◌≡◌, ℕ, List, [], ◌∷◌, ◌++◌, length, drop, map, refl, sym, ap, subst, ◌∙◌, append_assoc}
+-- The inputs of events, by the bytes between their lines, and by the rest of the stream before them.
+use Rattle.std.proofs.Common.{◌≡◌, ℕ, List, [], ◌∷◌, ◌++◌, map, refl, sym, ap, subst, ◌∙◌, append_assoc}
 use Rattle.std.proofs.Math.Seq.{drop-append_seam}
 use Rattle.std.proofs.lemmas.List.{append-nil, map-append}
-use Rattle.esp3_frames.specs.Packet.{Packet}
 use Rattle.esp3_frames.specs.PacketsAndRest.{packets_in, rest_of}
-use Rattle.esp3_frames.proofs.ForCallers.{framing_in_parts}
+use Rattle.esp3_frames.proofs.ForCallers.{framing_in_parts, framing_of, packets_and_rest-may_become, rest_may_become}
 use Rattle.gateway_core.specs.Step.{Input, Received, Ordered}
 use Rattle.gateway_core.specs.Run.{Run}
 use Rattle.gateway_core.specs.Events.{InputEvent, Chunk, Line, new_packets, inputs_of, bytes_in, desk_lines_in}
-use Rattle.gateway_core.specs.Events.{prepend_to_first}
-use Rattle.gateway_core.specs.Events.{bytes_between, InputsDoNotDependOnChunks, AnswersDoNotDependOnChunks}
+use Rattle.gateway_core.specs.Events.{prepend_to_first, bytes_between, InputsDoNotDependOnChunks}
+use Rattle.gateway_core.specs.Events.{AnswersDoNotDependOnChunks}
 use Rattle.gateway_core.proofs.RunLemmas.{same_failures_give_same_answers}
+use Rattle.esp3_frames.specs.Framing.{MayBecomePacket}
 
 -- some bytes complete the packets that they complete after the rest of the stream
-pub new_packets-rest : (s w : List ℕ) → new_packets s w ≡ packets_in (rest_of s ++ w)
-new_packets-rest s w = ap (λ (ps : List Packet). drop (length (packets_in s)) ps) (framing_in_parts s w).0
-    ∙ drop-append_seam (packets_in s) (packets_in (rest_of s ++ w))
+pub new_packets-rest : (stream bytes : List ℕ) → new_packets stream bytes ≡ packets_in (rest_of stream ++ bytes)
+new_packets-rest stream bytes =
+    rw (framing_in_parts stream bytes).0 (drop-append_seam (packets_in stream) (packets_in (rest_of stream ++ bytes)))
 
-pub new_packets-nil : (s : List ℕ) → new_packets s [] ≡ []
-new_packets-nil s = ap (λ (y : List ℕ). drop (length (packets_in s)) (packets_in y)) (append-nil s)
-    ∙ ap (λ (ps : List Packet). drop (length (packets_in s)) ps) (sym (append-nil (packets_in s)))
-    ∙ drop-append_seam (packets_in s) []
+pub new_packets-nil : (stream : List ℕ) → new_packets stream [] ≡ []
+new_packets-nil stream =
+    rw (append-nil stream) (rw (append-nil (packets_in stream)) at (drop-append_seam (packets_in stream) []))
 
-pub new_packets-append : (s v w : List ℕ) → new_packets s (v ++ w) ≡ new_packets s v ++ new_packets (s ++ v) w
-new_packets-append s v w =
-    let a = framing_in_parts (rest_of s ++ v) w in
-    let b = framing_in_parts s v in
-    new_packets-rest s (v ++ w)
-    ∙ ap packets_in (sym (append_assoc (rest_of s) v w)) ∙ a.0
-    ∙ ap (λ (ps : List Packet). ps ++ packets_in (rest_of (rest_of s ++ v) ++ w)) (sym (new_packets-rest s v))
-    ∙ ap (λ (y : List ℕ). new_packets s v ++ packets_in (y ++ w)) (sym b.1)
-    ∙ ap (λ (ps : List Packet). new_packets s v ++ ps) (sym (new_packets-rest (s ++ v) w))
+pub new_packets-append : (stream bytes more : List ℕ)
+    → new_packets stream (bytes ++ more) ≡ new_packets stream bytes ++ new_packets (stream ++ bytes) more
+new_packets-append stream bytes more =
+    rw (
+      new_packets-rest stream (bytes ++ more),
+      new_packets-rest stream bytes,
+      new_packets-rest (stream ++ bytes) more,
+      ← append_assoc (rest_of stream) bytes more,
+      (framing_in_parts (rest_of stream ++ bytes) more).0,
+      (framing_in_parts stream bytes).1,
+    )
 
 -- the events of two lists, one after the other
-pub inputs_of-append : (s : List ℕ) (events more : List InputEvent)
-    → inputs_of s (events ++ more) ≡ inputs_of s events ++ inputs_of (s ++ bytes_in events) more
-inputs_of-append s [] more = ap (λ (y : List ℕ). inputs_of y more) (sym (append-nil s))
-inputs_of-append s (Chunk w ∷ events) more =
-    ap (λ (inputs : List Input). map Received (new_packets s w) ++ inputs)
-    (inputs_of-append (s ++ w) events more
-    ∙ ap (λ (y : List ℕ). inputs_of (s ++ w) events ++ inputs_of y more) (append_assoc s w (bytes_in events)))
-    ∙ sym (append_assoc (map Received (new_packets s w)) (inputs_of (s ++ w) events)
-    (inputs_of (s ++ (w ++ bytes_in events)) more))
-inputs_of-append s (Line line ∷ events) more =
-    ap (λ (inputs : List Input). Ordered line ∷ inputs) (inputs_of-append s events more)
+pub inputs_of-append : (stream : List ℕ) (events more : List InputEvent)
+    → inputs_of stream (events ++ more) ≡ inputs_of stream events ++ inputs_of (stream ++ bytes_in events) more
+inputs_of-append stream [] more = rw (append-nil stream)
+inputs_of-append stream (Chunk bytes ∷ events) more =
+    simp (inputs_of-append (stream ++ bytes) events more, append_assoc)
+inputs_of-append stream (Line line ∷ events) more = simp (inputs_of-append stream events more)
 
 -- the inputs of lines and of the bytes between them
 spread : List ℕ → List (List ℕ) → List (List ℕ) → List Input
-spread s [] ls = []
-spread s (x ∷ xs) [] = map Received (new_packets s x)
-spread s (x ∷ xs) (l ∷ ls) = map Received (new_packets s x) ++ Ordered l ∷ spread (s ++ x) xs ls
+spread stream [] lines = []
+spread stream (bytes ∷ others) [] = map Received (new_packets stream bytes)
+spread stream (bytes ∷ others) (line ∷ lines) =
+    map Received (new_packets stream bytes) ++ Ordered line ∷ spread (stream ++ bytes) others lines
 
-received-append : (s v w : List ℕ)
-    → map Received (new_packets s (v ++ w)) ≡ map Received (new_packets s v) ++ map Received (new_packets (s ++ v) w)
-received-append s v w = ap (λ (ps : List Packet). map Received ps) (new_packets-append s v w)
-    ∙ map-append Received (new_packets s v) (new_packets (s ++ v) w)
+received-append : (stream bytes more : List ℕ)
+    → map Received (new_packets stream (bytes ++ more))
+    ≡ map Received (new_packets stream bytes) ++ map Received (new_packets (stream ++ bytes) more)
+received-append stream bytes more = rw (new_packets-append stream bytes more)
+    (map-append Received (new_packets stream bytes) (new_packets (stream ++ bytes) more))
 
-spread-prepend_to_first : (s w : List ℕ) (xs ls : List (List ℕ)) → (y : List ℕ)
-    → spread s (prepend_to_first w (y ∷ xs)) ls ≡ map Received (new_packets s w) ++ spread (s ++ w) (y ∷ xs) ls
+spread-prepend_to_first : (stream bytes text : List ℕ) (texts lines : List (List ℕ))
+    → spread stream (prepend_to_first bytes (text ∷ texts)) lines
+    ≡ map Received (new_packets stream bytes) ++ spread (stream ++ bytes) (text ∷ texts) lines
 unfolding spread
-spread-prepend_to_first s w xs [] y = received-append s w y
-spread-prepend_to_first s w xs (l ∷ ls) y =
-    ap (λ (is : List Input). is ++ Ordered l ∷ spread (s ++ (w ++ y)) xs ls) (received-append s w y)
-    ∙ ap (λ (z : List ℕ). (map Received (new_packets s w) ++ map Received (new_packets (s ++ w) y))
-    ++ Ordered l ∷ spread z xs ls) (sym (append_assoc s w y))
-    ∙ append_assoc (map Received (new_packets s w)) (map Received (new_packets (s ++ w) y))
-    (Ordered l ∷ spread ((s ++ w) ++ y) xs ls)
+spread-prepend_to_first stream bytes text texts [] = received-append stream bytes text
+spread-prepend_to_first stream bytes text texts (line ∷ lines) =
+    simp (received-append stream bytes text, append_assoc)
 
-front_cons : (w : List ℕ) (xs : List (List ℕ)) → (y : List ℕ) × (ys : List (List ℕ)) × (prepend_to_first w xs ≡ y ∷ ys)
-front_cons w [] = (w, [], refl)
-front_cons w (x ∷ xs) = (w ++ x, xs, refl)
+front_cons : (bytes : List ℕ) (texts : List (List ℕ))
+    → (text : List ℕ) × (others : List (List ℕ)) × (prepend_to_first bytes texts ≡ text ∷ others)
+front_cons bytes [] = (bytes, [], refl)
+front_cons bytes (text ∷ texts) = (bytes ++ text, texts, refl)
 
-between_cons : (events : List InputEvent) → (y : List ℕ) × (ys : List (List ℕ)) × (bytes_between events ≡ y ∷ ys)
+between_cons : (events : List InputEvent)
+    → (text : List ℕ) × (others : List (List ℕ)) × (bytes_between events ≡ text ∷ others)
 between_cons [] = ([], [], refl)
-between_cons (Chunk w ∷ events) = front_cons w (bytes_between events)
-between_cons (Line l ∷ events) = ([], bytes_between events, refl)
+between_cons (Chunk bytes ∷ events) = front_cons bytes (bytes_between events)
+between_cons (Line line ∷ events) = ([], bytes_between events, refl)
 
-inputs_of-spread : (s : List ℕ) (events : List InputEvent)
-    → inputs_of s events ≡ spread s (bytes_between events) (desk_lines_in events)
+inputs_of-spread : (stream : List ℕ) (events : List InputEvent)
+    → inputs_of stream events ≡ spread stream (bytes_between events) (desk_lines_in events)
 unfolding spread
-inputs_of-spread s [] = sym (ap (λ (ps : List Packet). map Received ps) (new_packets-nil s))
-inputs_of-spread s (Chunk w ∷ events) =
-    let c = between_cons events in
-    ap (λ (is : List Input). map Received (new_packets s w) ++ is)
-    (inputs_of-spread (s ++ w) events ∙ ap (λ (xs : List (List ℕ)). spread (s ++ w) xs (desk_lines_in events)) c.2)
-    ∙ sym (ap (λ (xs : List (List ℕ)). spread s (prepend_to_first w xs) (desk_lines_in events)) c.2
-    ∙ spread-prepend_to_first s w c.1 (desk_lines_in events) c.0)
-inputs_of-spread s (Line l ∷ events) =
-    ap (λ (is : List Input). Ordered l ∷ is)
-    (inputs_of-spread s events
-    ∙ ap (λ (z : List ℕ). spread z (bytes_between events) (desk_lines_in events)) (sym (append-nil s)))
-    ∙ sym (ap (λ (ps : List Packet). map Received ps
-    ++ Ordered l ∷ spread (s ++ []) (bytes_between events) (desk_lines_in events)) (new_packets-nil s))
+inputs_of-spread stream [] = simp (new_packets-nil stream)
+inputs_of-spread stream (Chunk bytes ∷ events) =
+    let (text, others, is) = between_cons events in
+    let rest = rw is at (inputs_of-spread (stream ++ bytes) events) in
+    rw is (sym (spread-prepend_to_first stream bytes text others (desk_lines_in events)
+    ∙ ap (λ inputs. map Received (new_packets stream bytes) ++ inputs) (sym rest)))
+inputs_of-spread stream (Line line ∷ events) =
+    cc (new_packets-nil stream, append-nil stream, inputs_of-spread stream events)
 
 pub cuts_do_not_matter : InputsDoNotDependOnChunks
 cuts_do_not_matter s events others same_lines same_bytes =
@@ -107,3 +99,45 @@ answers_do_not_depend_on_chunks s events others old left right results after ans
     let same = cuts_do_not_matter s events others same_lines same_bytes in
     let on_same = subst (λ inputs. Run old inputs after more right) (sym same) second in
     same_failures_give_same_answers old left right (inputs_of s events) results after answers more alike first on_same
+
+-- ---- only the rest of the stream matters
+
+pub rest_goes_on : (s : List ℕ) → MayBecomePacket (rest_of s)
+rest_goes_on s = rest_may_become (framing_of s)
+
+rest_of-rest_of : (stream : List ℕ) → rest_of (rest_of stream) ≡ rest_of stream
+rest_of-rest_of stream = sym (packets_and_rest-may_become (rest_of stream) (rest_goes_on stream)).1
+
+-- the inputs of events depend only on the rest of the stream
+inputs_of-rest : (stream : List ℕ) (events : List InputEvent)
+    → inputs_of stream events ≡ inputs_of (rest_of stream) events
+inputs_of-rest stream [] = refl
+inputs_of-rest stream (Chunk bytes ∷ events) = cc (
+  new_packets-rest stream bytes,
+  new_packets-rest (rest_of stream) bytes,
+  rest_of-rest_of stream,
+  inputs_of-rest (stream ++ bytes) events,
+  inputs_of-rest (rest_of stream ++ bytes) events,
+  (framing_in_parts stream bytes).1,
+)
+inputs_of-rest stream (Line line ∷ events) = cc (inputs_of-rest stream events)
+
+bytes_in-append : (events more : List InputEvent) → bytes_in (events ++ more) ≡ bytes_in events ++ bytes_in more
+bytes_in-append [] more = refl
+bytes_in-append (Chunk bytes ∷ events) more =
+    cc (bytes_in-append events more, append_assoc bytes (bytes_in events) (bytes_in more))
+bytes_in-append (Line line ∷ events) more = bytes_in-append events more
+
+-- more events after those that left this rest
+pub items_behind : (old mid : List ℕ) (events more : List InputEvent) → mid ≡ rest_of (old ++ bytes_in events)
+    → inputs_of old (events ++ more) ≡ inputs_of old events ++ inputs_of mid more
+items_behind old mid events more is =
+    cc (inputs_of-append old events more, inputs_of-rest (old ++ bytes_in events) more)
+
+pub rest_behind : (old mid : List ℕ) (events more : List InputEvent) → mid ≡ rest_of (old ++ bytes_in events)
+    → rest_of (mid ++ bytes_in more) ≡ rest_of (old ++ bytes_in (events ++ more))
+rest_behind old mid events more is = cc (
+  (framing_in_parts (old ++ bytes_in events) (bytes_in more)).1,
+  append_assoc old (bytes_in events) (bytes_in more),
+  bytes_in-append events more,
+)

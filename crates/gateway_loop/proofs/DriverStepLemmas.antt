@@ -10,255 +10,215 @@ use Rattle.esp3_frames.proofs.ForCallers.{packets_and_rest-may_become}
 use Rattle.gateway_core.specs.Step.{Input, Received, Ordered, Answer}
 use Rattle.gateway_core.specs.Handling.{HandlerValue}
 use Rattle.gateway_core.specs.Calls.{GatewayValue, Transition, Next, Bytes, Order}
-use Rattle.gateway_core.specs.Events.{InputEvent, Chunk, Line, bytes_in, inputs_of}
-use Rattle.gateway_core.proofs.ForCallers.{new_packets-rest, cuts_do_not_matter, rest_goes_on, items_behind}
-use Rattle.gateway_core.proofs.ForCallers.{rest_behind, count_on}
+use Rattle.gateway_core.specs.Events.{InputEvent, Chunk, Line, inputs_of}
+use Rattle.gateway_core.proofs.ForCallers.{new_packets-rest, rest_goes_on, items_behind, rest_behind, count_on}
 use Rattle.gateway_state.specs.Counts.{saturated_sum}
 use Rattle.gateway_loop.specs.OutputSpecs.{OutputSpec}
 use Rattle.gateway_loop.specs.declared.driver.Driver.{Driver}
 use Rattle.gateway_loop.specs.Processing.{HasNoReadyPacket, IsWholeOrChunkPrefix, AnswersInputs, LastAnswerCutShort}
 use Rattle.gateway_loop.specs.private.DriverSteps.{Drains, DrainsPart, DriverBreaks, Takes}
-use Rattle.gateway_loop.proofs.AnswerLemmas.{answers_nothing, answers_one, answers-append, part_one, answers-part}
-use Rattle.gateway_loop.proofs.ProcessingLemmas.{plays_nothing, plays-append}
-
--- one more packet leaves the queue
-ready_after : (old mid new : List Packet) (packets : List Packet) (packet : Packet) → old ≡ packets ++ mid
-    → mid ≡ packet ∷ new → old ≡ (packets ++ packet ∷ []) ++ new
-ready_after old mid new packets packet e f =
-    e ∙ ap (λ (ps : List Packet). packets ++ ps) f ∙ sym (append_assoc packets (packet ∷ []) new)
-
--- two chunks stand for the same as their concatenation
-items-joined : (s a b : List ℕ) → inputs_of s (Chunk (a ++ b) ∷ []) ≡ inputs_of s (Chunk a ∷ Chunk b ∷ [])
-items-joined s a b =
-    cuts_do_not_matter s (Chunk (a ++ b) ∷ []) (Chunk a ∷ Chunk b ∷ []) refl
-    (ap (λ (w : List ℕ). w ∷ []) (append_assoc a b []))
+use Rattle.gateway_loop.proofs.ChunkLemmas.{inputs_of-parts}
+use Rattle.gateway_loop.proofs.ProcessingLemmas.{answers-nothing, answers-append, answers-cut_short}
+use Rattle.gateway_loop.proofs.ProcessingLemmas.{processes-append}
 
 -- the packets that a chunk completes after a rest
-inputs_of-chunk : (rest bytes : List ℕ) → MayBecomePacket rest
-    → inputs_of rest (Chunk bytes ∷ []) ≡ map Received (packets_in (rest ++ bytes))
-inputs_of-chunk rest bytes live =
-    append-nil (map Received _) ∙ ap (λ (ps : List Packet). map Received ps)
-    (new_packets-rest rest bytes ∙ ap (λ r. packets_in (r ++ bytes)) (sym (packets_and_rest-may_become rest live).1))
+inputs_of-chunk : (rest bytes : List ℕ) {ready : List Packet} → MayBecomePacket rest
+    → ready ≡ packets_in (rest ++ bytes) → inputs_of rest (Chunk bytes ∷ []) ≡ map Received ready
+inputs_of-chunk rest bytes live is =
+    append-nil (map Received _) ∙ ap (λ (packets : List Packet). map Received packets)
+    (new_packets-rest rest bytes ∙ ap (λ r. packets_in (r ++ bytes)) (sym (packets_and_rest-may_become rest live).1)
+    ∙ sym is)
 
-module _ {S : Type 0} (stored : S → DeviceStoreState) {O : Type 0} (output : OutputSpec O) where
+-- a prefix of a chunk is a chunk
+begun-chunk : (chunk : List ℕ) (begun : InputEvent) → IsWholeOrChunkPrefix (Chunk chunk) begun
+    → (run : List ℕ) × (begun ≡ Chunk run) × (later : List ℕ) × (chunk ≡ run ++ later)
+begun-chunk chunk (Chunk run) (later, is) = (run, refl, later, is)
+begun-chunk chunk (Line line) begins = absurd begins
+
+module _ {S : Type 0} {stored : S → DeviceStoreState} {O : Type 0} (output : OutputSpec O) where
   -- ---- the ready packets
 
-  pub drains_nothing : (old : GatewayValue S) (o : O) (count : ℕ) → count < 2 ^ 64
-      → Drains stored old old (output.puts o o) count count
-  drains_nothing old o count fits =
-      let none = answers_nothing stored output old.handler o in
-      record { packets = []; ready = refl; rest = refl; answered = none; counted = omega arith }
-
-  pub drains_one : (old mid new : GatewayValue S) (answer : Answer) (o mids now : O) (count some total : ℕ)
-      → Drains stored old mid (output.puts o mids) count some → Transition stored mid (Next (Some answer)) new
-      → output.puts mids now (answer ∷ []) → total ≡ saturated_sum some 1
-      → Drains stored old new (output.puts o now) count total
-  drains_one old mid new answer o mids now count some total before (packet, first, rest, handled) out counted =
-      record {
-        packets = before.packets ++ packet ∷ [];
-        ready = ready_after old.ready mid.ready new.ready before.packets packet before.ready first;
-        rest = rest ∙ before.rest;
-        answered = rw (map-append Received before.packets (packet ∷ []))
-            (answers-append stored output old.handler mid.handler new.handler (map Received before.packets)
-            (Received packet ∷ []) o mids now before.answered
-            (answers_one stored output mid.handler new.handler (Received packet) answer mids now handled
-            out));
-        counted =
-            rw (length-append before.packets (packet ∷ []))
-            (count_on count some total (length before.packets) 1 before.counted counted);
-      }
-
-  pub drains_part : (old mid new : GatewayValue S) (answer : Answer) (o mids now : O) (count some : ℕ)
-      → Drains stored old mid (output.puts o mids) count some → Transition stored mid (Next (Some answer)) new
-      → output.breaks mids now [] answer → DrainsPart stored old new (output.breaks o now)
-  drains_part old mid new answer o mids now count some before (packet, first, rest, handled) part = record {
-    packets = before.packets ++ packet ∷ [];
-    not_empty = omega (arith, length-append before.packets (packet ∷ []));
-    ready = ready_after old.ready mid.ready new.ready before.packets packet before.ready first;
-    rest = rest ∙ before.rest;
-    answered = rw (map-append Received before.packets (packet ∷ []))
-        (answers-part stored output old.handler mid.handler new.handler (map Received before.packets)
-        (Received packet ∷ []) o mids now before.answered
-        (part_one stored output mid.handler new.handler (Received packet) answer mids now handled part));
+  pub drains-nothing : (gateway : GatewayValue S) (sink : O) (count : ℕ) → count < 2 ^ 64
+      → Drains stored gateway gateway (output.puts sink sink) count count
+  drains-nothing gateway sink count fits = record {
+    packets = [];
+    ready = refl;
+    rest = refl;
+    answered = answers-nothing output sink;
+    counted = omega arith;
   }
 
-module _ {O S : Type 0} (stored : S → DeviceStoreState) (output : OutputSpec O) where
+  -- one more packet is handled, and its answer written
+  pub drains-packet : {old mid new : GatewayValue S} {answer : Answer} {count some total : ℕ} (before between after : O)
+      → Drains stored old mid (output.puts before between) count some
+      → Transition stored mid (Next (Some answer)) new → output.puts between after (answer ∷ [])
+      → total ≡ saturated_sum some 1 → Drains stored old new (output.puts before after) count total
+  drains-packet {answer = answer} before between after drained (packet, first, rest, handled) out counted = record {
+    packets = drained.packets ++ packet ∷ [];
+    ready = rw (append_assoc, ← first) drained.ready;
+    rest = rest ∙ drained.rest;
+    answered = rw (map-append Received drained.packets (packet ∷ []))
+        (answers-append output before between after drained.answered
+        (record { answers = answer ∷ []; handled = handled; out = out }));
+    counted = rw (length-append drained.packets (packet ∷ []))
+        (count_on _ _ _ (length drained.packets) 1 drained.counted counted);
+  }
+
+  -- and its answer is not written completely
+  pub drains_part-packet : {old mid new : GatewayValue S} {answer : Answer} {count some : ℕ} (before between after : O)
+      → Drains stored old mid (output.puts before between) count some
+      → Transition stored mid (Next (Some answer)) new → output.breaks between after [] answer
+      → DrainsPart stored old new (output.breaks before after)
+  drains_part-packet {answer = answer} before between after drained (packet, first, rest, handled) out = record {
+    packets = drained.packets ++ packet ∷ [];
+    not_empty = omega (arith, length-append drained.packets (packet ∷ []));
+    ready = rw (append_assoc, ← first) drained.ready;
+    rest = rest ∙ drained.rest;
+    answered = rw (map-append Received drained.packets (packet ∷ []))
+        (answers-cut_short output before between after drained.answered
+        (record { answers = []; last = answer; handled = handled; out = out }));
+  }
+
   -- ---- a chunk
 
-  -- bytes, and the packets that they make ready
-  inputs_of-bytes : (old mid : GatewayValue S) (run : List ℕ) → HasNoReadyPacket old
-      → Transition stored old (Bytes run) mid
-      → inputs_of old.rest (Chunk run ∷ []) ≡ map Received mid.ready
-  inputs_of-bytes old mid run idle (none, state, ready, rest) =
-      inputs_of-chunk old.rest run idle.rest ∙ ap (λ (ps : List Packet). map Received ps) (sym ready)
-
-  pub takes_nothing : (old : Driver O S) → HasNoReadyPacket old.gateway.now → old.items < 2 ^ 64
-      → Takes stored output old old (Chunk [] ∷ [])
-  takes_nothing old idle fits =
-      let rest = old.gateway.now.rest in
-      let none : inputs_of rest (Chunk [] ∷ []) ≡ [] =
-      inputs_of-chunk rest [] idle.rest ∙ ap (λ r. map Received (packets_in r)) (append-nil rest)
-      ∙ ap (λ (ps : List Packet). map Received ps) (sym (packets_and_rest-may_become rest idle.rest).0) in
-      let processed = plays_nothing stored output old idle in
-      record {
-        processed = record { answered = rw none processed.answered; rest = processed.rest; idle = idle };
-        counted = rw none (omega arith);
-      }
-
   -- a run of bytes, and the packets that it completes
-  pub takes_run : (old new : Driver O S) (mid : GatewayValue S) (run : List ℕ) → HasNoReadyPacket old.gateway.now
+  pub takes-run : (old new : Driver O S) {mid : GatewayValue S} {run : List ℕ} → HasNoReadyPacket old.gateway.now
       → Transition stored old.gateway.now (Bytes run) mid → new.gateway.now.ready ≡ []
       → Drains stored mid new.gateway.now (output.puts old.reply_sink new.reply_sink) old.items new.items
       → Takes stored output old new (Chunk run ∷ [])
-  takes_run old new mid run idle moved none drained =
+  takes-run old new {run = run} idle moved none drained =
       let rest = old.gateway.now.rest in
-      let ended = new.gateway.now in
-      let all : mid.ready ≡ drained.packets =
-      drained.ready ∙ ap (λ (ps : List Packet). drained.packets ++ ps) none ∙ append-nil drained.packets in
-      let is : inputs_of rest (Chunk run ∷ []) ≡ map Received drained.packets =
-      inputs_of-bytes old.gateway.now mid run idle moved ∙ ap (λ (ps : List Packet). map Received ps) all in
-      let rests : ended.rest ≡ rest_of (rest ++ run) = drained.rest ∙ moved.3 in
+      let handler = new.gateway.now.handler in
+      let all : inputs_of rest (Chunk run ∷ []) ≡ map Received drained.packets =
+      inputs_of-chunk rest run idle.rest moved.2
+      ∙ ap (λ (packets : List Packet). map Received packets) (rw (none, append-nil) at drained.ready) in
+      let rest_is : new.gateway.now.rest ≡ rest_of (rest ++ run) = drained.rest ∙ moved.3 in
       record {
         processed = record {
-          answered =
-              rw is (let P : HandlerValue S → Type 0 =
-              λ s. AnswersInputs stored s ended.handler (map Received drained.packets)
-              (output.puts old.reply_sink new.reply_sink)
-              in subst P moved.1 drained.answered);
-          rest = rests ∙ ap (λ w. rest_of (rest ++ w)) (sym (append-nil run));
-          idle = record { ready = none; rest = rw rests (rest_goes_on (rest ++ run)) };
+          answered = rw all (subst (λ (start : HandlerValue S).
+              AnswersInputs stored start handler (map Received drained.packets)
+              (output.puts old.reply_sink new.reply_sink)) moved.1 drained.answered);
+          rest = rw append-nil rest_is;
+          idle = record { ready = none; rest = rw rest_is (rest_goes_on (rest ++ run)) };
         };
-        counted = rw (is, length-map) drained.counted;
+        counted = rw (all, length-map) drained.counted;
       }
 
+  -- the start of a chunk
+  pub takes-no_bytes : (driver : Driver O S) → HasNoReadyPacket driver.gateway.now → driver.items < 2 ^ 64
+      → Takes stored output driver driver (Chunk [] ∷ [])
+  takes-no_bytes driver idle fits =
+      let gateway = driver.gateway.now in
+      let nothing = packets_and_rest-may_become gateway.rest idle.rest in
+      takes-run driver driver idle (idle.ready, refl, rw append-nil (idle.ready ∙ nothing.0), rw append-nil nothing.1)
+      idle.ready (drains-nothing gateway driver.reply_sink driver.items fits)
+
   -- a chunk in two parts
-  pub takes_both : (old now new : Driver O S) (bytes run : List ℕ) → Takes stored output old now (Chunk bytes ∷ [])
-      → Takes stored output now new (Chunk run ∷ []) → Takes stored output old new (Chunk (bytes ++ run) ∷ [])
-  takes_both old now new bytes run before next =
+  pub takes-chunks : {old mid new : Driver O S} {bytes run : List ℕ} → Takes stored output old mid (Chunk bytes ∷ [])
+      → Takes stored output mid new (Chunk run ∷ []) → Takes stored output old new (Chunk (bytes ++ run) ∷ [])
+  takes-chunks {old} {mid} {new} {bytes} {run} first second =
       let rest = old.gateway.now.rest in
-      let after = now.gateway.now.rest in
-      let joined =
-      plays-append stored output old now new (Chunk bytes ∷ []) (Chunk run ∷ []) before.processed next.processed in
-      let items = items-joined rest bytes run in
-      let behind = items_behind rest after (Chunk bytes ∷ []) (Chunk run ∷ []) before.processed.rest in
+      let after = mid.gateway.now.rest in
+      let joined = processes-append output old mid new first.processed second.processed in
+      let parts = inputs_of-parts rest bytes run [] in
       record {
         processed = record {
-          answered = rw items joined.answered;
-          rest = joined.rest ∙ ap (λ w. rest_of (rest ++ w)) (sym (append_assoc bytes run []));
+          answered = rw parts joined.answered;
+          rest = rw append_assoc joined.rest;
           idle = joined.idle;
         };
         counted =
-            rw (items, behind, length-append)
-            (count_on old.items now.items new.items _ (length (inputs_of after (Chunk run ∷ []))) before.counted
-            next.counted);
+            rw (parts, items_behind rest after (Chunk bytes ∷ []) (Chunk run ∷ []) first.processed.rest, length-append)
+            (count_on old.items mid.items new.items _ (length (inputs_of after (Chunk run ∷ []))) first.counted
+            second.counted);
       }
 
   -- an answer is not written completely, at the packets of a run of bytes
-  pub breaks_in_run : (old new : Driver O S) (mid : GatewayValue S) (run later chunk : List ℕ)
-      → HasNoReadyPacket old.gateway.now
-      → Transition stored old.gateway.now (Bytes run) mid
+  pub breaks-run : (old new : Driver O S) {mid : GatewayValue S} (run later : List ℕ) {chunk : List ℕ}
+      → HasNoReadyPacket old.gateway.now → Transition stored old.gateway.now (Bytes run) mid
       → DrainsPart stored mid new.gateway.now (output.breaks old.reply_sink new.reply_sink)
       → chunk ≡ run ++ later → DriverBreaks stored output old new [] (Chunk chunk)
-  breaks_in_run old new mid run later chunk idle moved drained whole =
-      let rest = old.gateway.now.rest in
-      let ended = new.gateway.now in
-      let new_packets = map Received drained.packets in
+  breaks-run old new run later idle moved drained whole =
+      let handler = new.gateway.now.handler in
+      let inputs = map Received drained.packets in
       record {
         begun_event = Chunk run;
         begun_is_prefix = (later, whole);
-        inputs = new_packets;
-        handled_of_begun_event = new_packets;
+        inputs = inputs;
+        handled_of_begun_event = inputs;
         inputs_are = refl;
-        not_empty = let more = drained.not_empty in omega (arith, more, length-map drained.packets Received);
-        ready_packets_are = inputs_of-bytes old.gateway.now mid run idle moved
-            ∙ ap (λ (ps : List Packet). map Received ps) drained.ready
-            ∙ map-append Received drained.packets ended.ready;
-        rest = drained.rest ∙ moved.3 ∙ ap (λ w. rest_of (rest ++ w)) (sym (append-nil run));
-        answered =
-            let P : HandlerValue S
-            → Type 0 = λ s. LastAnswerCutShort stored s ended.handler new_packets
-            (output.breaks old.reply_sink new.reply_sink)
-            in
-            subst P moved.1 drained.answered;
+        not_empty = rw length-map drained.not_empty;
+        ready_packets_are = inputs_of-chunk old.gateway.now.rest run idle.rest moved.2
+            ∙ ap (λ (packets : List Packet). map Received packets) drained.ready
+            ∙ map-append Received drained.packets new.gateway.now.ready;
+        rest = rw append-nil (drained.rest ∙ moved.3);
+        answered = subst (λ (start : HandlerValue S).
+            LastAnswerCutShort stored start handler inputs (output.breaks old.reply_sink new.reply_sink)) moved.1
+            drained.answered;
       }
 
-  -- a prefix of a chunk is a chunk
-  begun-chunk : (chunk : List ℕ) (begun : InputEvent) → IsWholeOrChunkPrefix (Chunk chunk) begun
-      → (run : List ℕ) × (begun ≡ Chunk run) × (later : List ℕ) × (chunk ≡ run ++ later)
-  begun-chunk chunk (Chunk run) (later, is) = (run, refl, later, is)
-  begun-chunk chunk (Line line) begins = absurd begins
-
   -- an answer is not written completely, in the second part of a chunk
-  pub breaks_behind : (old now new : Driver O S) (bytes others : List ℕ)
-      → Takes stored output old now (Chunk bytes ∷ [])
-      → DriverBreaks stored output now new [] (Chunk others)
-      → DriverBreaks stored output old new [] (Chunk (bytes ++ others))
-  breaks_behind old now new bytes others before broken =
+  pub breaks-chunks : {old mid : Driver O S} (new : Driver O S) {bytes more : List ℕ}
+      → Takes stored output old mid (Chunk bytes ∷ []) → DriverBreaks stored output mid new [] (Chunk more)
+      → DriverBreaks stored output old new [] (Chunk (bytes ++ more))
+  breaks-chunks {old} {mid} new {bytes} {more} first broken =
       let rest = old.gateway.now.rest in
-      let after = now.gateway.now.rest in
-      let ended = new.gateway.now in
-      let first = inputs_of rest (Chunk bytes ∷ []) in
-      let part = begun-chunk others broken.begun_event broken.begun_is_prefix in
-      let run = part.0 in
-      let behind = broken.inputs_are in
+      let after = mid.gateway.now.rest in
+      let inputs = inputs_of rest (Chunk bytes ∷ []) in
+      let (run, is_run, later, whole) = begun-chunk more broken.begun_event broken.begun_is_prefix in
       record {
         begun_event = Chunk (bytes ++ run);
-        begun_is_prefix = (part.2, ap (λ w. bytes ++ w) part.3 ∙ sym (append_assoc bytes run part.2));
-        inputs = first ++ broken.inputs;
-        handled_of_begun_event = first ++ broken.inputs;
+        begun_is_prefix = (later, ap (λ b. bytes ++ b) whole ∙ sym (append_assoc bytes run later));
+        inputs = inputs ++ broken.inputs;
+        handled_of_begun_event = inputs ++ broken.inputs;
         inputs_are = refl;
         not_empty =
             let some = broken.not_empty in
-            omega (arith, some, ap (λ (is : List Input). length is) behind, length-append first broken.inputs);
-        ready_packets_are = items-joined rest bytes run
-            ∙ items_behind rest after (Chunk bytes ∷ []) (Chunk run ∷ []) before.processed.rest
-            ∙ ap (λ (e : InputEvent). first ++ inputs_of after (e ∷ [])) (sym part.1)
-            ∙ ap (λ (is : List Input). first ++ is) broken.ready_packets_are
-            ∙ sym (append_assoc first broken.inputs (map Received ended.ready));
-        rest = broken.rest ∙ ap (λ (e : InputEvent). rest_of (after ++ bytes_in (e ∷ []))) part.1
-            ∙ rest_behind rest after (Chunk bytes ∷ []) (Chunk run ∷ []) before.processed.rest
-            ∙ ap (λ w. rest_of (rest ++ w)) (sym (append_assoc bytes run []));
-        answered =
-            answers-part stored output old.gateway.now.handler now.gateway.now.handler ended.handler first broken.inputs
-            old.reply_sink now.reply_sink new.reply_sink before.processed.answered broken.answered;
+            omega (
+              arith,
+              some,
+              ap (λ (is : List Input). length is) broken.inputs_are,
+              length-append inputs broken.inputs,
+            );
+        ready_packets_are = inputs_of-parts rest bytes run []
+            ∙ items_behind rest after (Chunk bytes ∷ []) (Chunk run ∷ []) first.processed.rest
+            ∙ ap (λ (is : List Input). inputs ++ is) (rw is_run at broken.ready_packets_are)
+            ∙ sym (append_assoc inputs broken.inputs (map Received new.gateway.now.ready));
+        rest = rw is_run at broken.rest
+            ∙ rest_behind rest after (Chunk bytes ∷ []) (Chunk run ∷ []) first.processed.rest
+            ∙ ap (λ b. rest_of (rest ++ b)) (sym (append_assoc bytes run []));
+        answered = answers-cut_short output old.reply_sink mid.reply_sink new.reply_sink first.processed.answered
+            broken.answered;
       }
 
   -- ---- an order
 
-  rest_stays : (old new : GatewayValue S) → HasNoReadyPacket old → new.rest ≡ old.rest
-      → new.rest ≡ rest_of (old.rest ++ [])
-  rest_stays old new idle e = e ∙ (packets_and_rest-may_become old.rest idle.rest).1
-      ∙ ap rest_of (sym (append-nil old.rest))
-
-  pub takes_order : (old new : Driver O S) (line : List ℕ) (answer : Answer) → HasNoReadyPacket old.gateway.now
+  -- an order, and its answer
+  pub takes-order : (old new : Driver O S) {line : List ℕ} {answer : Answer} → HasNoReadyPacket old.gateway.now
       → Transition stored old.gateway.now (Order line answer) new.gateway.now
       → output.puts old.reply_sink new.reply_sink (answer ∷ []) → new.items ≡ saturated_sum old.items 1
       → Takes stored output old new (Line line ∷ [])
-  takes_order old new line answer idle (ready, rest, handled) out counted = record {
+  takes-order old new {answer = answer} idle (ready, rest, handled) out counted = record {
     processed = record {
-      answered =
-          answers_one stored output old.gateway.now.handler new.gateway.now.handler (Ordered line) answer old.reply_sink
-          new.reply_sink handled out;
-      rest = rest_stays old.gateway.now new.gateway.now idle rest;
+      answered = record { answers = answer ∷ []; handled = handled; out = out };
+      rest = rw append-nil (rest ∙ (packets_and_rest-may_become old.gateway.now.rest idle.rest).1);
       idle = record { ready = ready ∙ idle.ready; rest = rw rest idle.rest };
     };
     counted = counted;
   }
 
-  pub breaks_at_order : (old new : Driver O S) (line : List ℕ) (answer : Answer) → HasNoReadyPacket old.gateway.now
+  -- an order, and an answer that is not written completely
+  pub breaks-order : (old new : Driver O S) {line : List ℕ} {answer : Answer} → HasNoReadyPacket old.gateway.now
       → Transition stored old.gateway.now (Order line answer) new.gateway.now
-      → output.breaks old.reply_sink new.reply_sink [] answer
-      → DriverBreaks stored output old new [] (Line line)
-  breaks_at_order old new line answer idle (ready, rest, handled) part = record {
+      → output.breaks old.reply_sink new.reply_sink [] answer → DriverBreaks stored output old new [] (Line line)
+  breaks-order old new {line} {answer} idle (ready, rest, handled) out = record {
     begun_event = Line line;
     begun_is_prefix = refl;
     inputs = Ordered line ∷ [];
     handled_of_begun_event = Ordered line ∷ [];
     inputs_are = refl;
     not_empty = omega arith;
-    ready_packets_are = ap (λ (ps : List Packet). Ordered line ∷ map Received ps) (sym (ready ∙ idle.ready));
-    rest = rest_stays old.gateway.now new.gateway.now idle rest;
-    answered =
-        part_one stored output old.gateway.now.handler new.gateway.now.handler (Ordered line) answer old.reply_sink
-        new.reply_sink handled part;
+    ready_packets_are = rw (ready, idle.ready) refl;
+    rest = rw append-nil (rest ∙ (packets_and_rest-may_become old.gateway.now.rest idle.rest).1);
+    answered = record { answers = []; last = answer; handled = handled; out = out };
   }

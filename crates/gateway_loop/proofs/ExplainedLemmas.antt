@@ -19,22 +19,19 @@ module _ (before : Answer → List ℕ) where
       → DifferByExplanations before answers (flat_map plain_of answers) (flat_map explained_of answers)
   explained-text [] = (refl, refl)
   explained-text (answer ∷ answers) =
-      let front = before answer in
-      let line = answer.explanation in
-      let desk = answer.desk in
-      let plain = flat_map plain_of answers in
-      let explained = flat_map explained_of answers in (
-        plain,
-        explained,
-        append_assoc front desk plain,
-        append_assoc front (line ++ desk) explained ∙ ap (λ text. front ++ text) (append_assoc line desk explained),
+      let line = answer.explanation in (
+        flat_map plain_of answers,
+        flat_map explained_of answers,
+        append_assoc (before answer) answer.desk _,
+        append_assoc (before answer) (line ++ answer.desk) _
+            ∙ ap (λ text. before answer ++ text) (append_assoc line answer.desk _),
         explained-text answers,
       )
 
-  behind : (answers : List Answer) (held plain explained : List ℕ) → plain ≡ held ++ flat_map plain_of answers
+  differ : (answers : List Answer) (held plain explained : List ℕ) → plain ≡ held ++ flat_map plain_of answers
       → explained ≡ held ++ flat_map explained_of answers
       → DifferByExplanationsAfter before answers held plain explained
-  behind answers held plain explained first second = record {
+  differ answers held plain explained first second = record {
     plain_added = flat_map plain_of answers;
     explained_added = flat_map explained_of answers;
     plain_is = first;
@@ -45,10 +42,10 @@ module _ (before : Answer → List ℕ) where
 pub explanations_only_add_lines : ExplanationsOnlyAddLines
 explanations_only_add_lines = record {
   replay = λ answers old new other first second.
-      behind (λ answer. radio_chunk_line answer.radio) answers (bytes_of old.writes) (bytes_of new.writes)
+      differ (λ answer. radio_chunk_line answer.radio) answers (bytes_of old.writes) (bytes_of new.writes)
       (bytes_of other.writes) (writes-bytes old new _ first) (writes-bytes old other _ second);
   desk = λ answers old new other first second.
-      behind (λ answer. []) answers (bytes_of old.1.writes) (bytes_of new.1.writes) (bytes_of other.1.writes)
+      differ (λ answer. []) answers (bytes_of old.1.writes) (bytes_of new.1.writes) (bytes_of other.1.writes)
       (writes-bytes old.1 new.1 _ first.1) (writes-bytes old.1 other.1 _ second.1);
   serial = λ answers old new other first second.
       writes-bytes old.0 new.0 _ first.0 ∙ sym (writes-bytes old.0 other.0 _ second.0);

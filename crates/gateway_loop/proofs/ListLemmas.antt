@@ -6,9 +6,6 @@ use Rattle.std.proofs.Math.Seq.{take-append-add, take-add}
 use Rattle.std.proofs.lemmas.Bool.{eqb-true}
 use Rattle.std.proofs.lemmas.List.{take-append-drop, take_min, take_more, take_all, length-drop}
 
-pub split_at : (xs : List ℕ) (i : ℕ) → i < length xs → xs ≡ (take i xs ++ get_or xs i 0 ∷ []) ++ drop (i + 1) xs
-split_at xs i below = sym (take-append-drop (i + 1) xs) ∙ ap (λ s. s ++ drop (i + 1) xs) (take_more xs i 0 below)
-
 -- some first elements, and some of those after them
 pub take_front : (xs : List ℕ) (i n : ℕ) → take (i + n) xs ≡ take i xs ++ take n (take (length xs - i) (drop i xs))
 take_front xs i n =
@@ -24,7 +21,8 @@ split_rest xs i =
 pub split_round : (xs : List ℕ) (i x : ℕ) → i < length xs → (slice_index xs i == x) ≡ true
     → xs ≡ take i xs ++ x ∷ drop (i + 1) xs
 split_round xs i x below is =
-    split_at xs i below ∙ append_assoc (take i xs) (get_or xs i 0 ∷ []) (drop (i + 1) xs)
+    sym (take-append-drop (i + 1) xs) ∙ ap (λ s. s ++ drop (i + 1) xs) (take_more xs i 0 below)
+    ∙ append_assoc (take i xs) (get_or xs i 0 ∷ []) (drop (i + 1) xs)
     ∙ ap (λ y. take i xs ++ y ∷ drop (i + 1) xs) (eqb-true (get_or xs i 0) x is)
 
 -- what fits after some elements

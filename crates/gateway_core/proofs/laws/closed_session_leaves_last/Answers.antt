@@ -1,4 +1,4 @@
-use Rattle.gateway_core.proofs.SessionCallLemmas.{closed_session_leaves_last}
+use Rattle.gateway_core.proofs.SessionLemmas.{closed_session_leaves_last}
 use Rattle.gateway_core.proofs.laws.closed_session_leaves_last.Goals as goal
 
 pub returns : goal.returns

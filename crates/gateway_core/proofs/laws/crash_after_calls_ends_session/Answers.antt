@@ -1,4 +1,4 @@
-use Rattle.gateway_core.proofs.SessionCallLemmas.{crash_after_calls_ends_session}
+use Rattle.gateway_core.proofs.SessionLemmas.{crash_after_calls_ends_session}
 use Rattle.gateway_core.proofs.laws.crash_after_calls_ends_session.Goals as goal
 
 pub returns : goal.returns

@@ -1,4 +1,4 @@
-use Rattle.gateway_core.proofs.RunLemmas.{handles-nothing, handles-append}
+use Rattle.gateway_core.proofs.HandlesLemmas.{handles-nothing, handles-append}
 use Rattle.gateway_core.proofs.laws.handled_inputs_concatenate.Goals as goal
 
 pub returns-clause-nothing : goal.returns-clause-nothing

@@ -1,4 +1,4 @@
-use Rattle.gateway_core.proofs.PrefixSessionLemmas.{prefixes_end_sessions}
+use Rattle.gateway_core.proofs.PrefixLemmas.{prefixes_end_sessions}
 use Rattle.gateway_core.proofs.laws.prefixes_end_sessions.Goals as goal
 
 pub returns : goal.returns

@@ -11,8 +11,8 @@ use Rattle.profiles_vld.specs.Profiles as variable_length
 use Rattle.profiles_rps.proofs.ForCallers.{by-rps, by-1bs, of-no-rows}
 use Rattle.profiles_4bs.proofs.ForCallers.{by-4bs}
 use Rattle.profiles_vld.proofs.ForCallers.{by-vld}
-use Rattle.gateway_core.specs.Profiles.{read_by}
 use Rattle.gateway_core.proofs.profiles.read_data.Goals as goal
+use Rattle.gateway_core.specs.Profiles.{read_by}
 
 -- the readings of the crate that this RORG chooses
 abbrev by_rorg : Eep → Telegram → ℕ → Result (List Entry) Unreadable
@@ -23,27 +23,23 @@ by_rorg eep t rorg =
 
 pub returns-in-246 : goal.returns-in-246
 returns-in-246 c =
-    let eep = c.args.eep in
-    let t = c.args.telegram.now in
-    c.read_rps.ensures.exact ∙ by-rps eep t c.in-246.is ∙ sym (ap (by_rorg eep t) c.in-246.is)
+    c.read_rps.ensures.exact ∙ by-rps c.args.eep c.args.telegram.now c.in-246.is
+    ∙ sym (ap (by_rorg c.args.eep c.args.telegram.now) c.in-246.is)
 
 pub returns-in-213 : goal.returns-in-213
 returns-in-213 c =
-    let eep = c.args.eep in
-    let t = c.args.telegram.now in
-    c.read_1bs_data.ensures.exact ∙ by-1bs eep t c.in-213.is ∙ sym (ap (by_rorg eep t) c.in-213.is)
+    c.read_1bs_data.ensures.exact ∙ by-1bs c.args.eep c.args.telegram.now c.in-213.is
+    ∙ sym (ap (by_rorg c.args.eep c.args.telegram.now) c.in-213.is)
 
 pub returns-in-165 : goal.returns-in-165
 returns-in-165 c =
-    let eep = c.args.eep in
-    let t = c.args.telegram.now in
-    c.read_4bs_data.ensures.exact ∙ by-4bs eep t c.in-165.is ∙ sym (ap (by_rorg eep t) c.in-165.is)
+    c.read_4bs_data.ensures.exact ∙ by-4bs c.args.eep c.args.telegram.now c.in-165.is
+    ∙ sym (ap (by_rorg c.args.eep c.args.telegram.now) c.in-165.is)
 
 pub returns-in-210 : goal.returns-in-210
 returns-in-210 c =
-    let eep = c.args.eep in
-    let t = c.args.telegram.now in
-    c.read_vld.ensures.exact ∙ by-vld eep t c.in-210.is ∙ sym (ap (by_rorg eep t) c.in-210.is)
+    c.read_vld.ensures.exact ∙ by-vld c.args.eep c.args.telegram.now c.in-210.is
+    ∙ sym (ap (by_rorg c.args.eep c.args.telegram.now) c.in-210.is)
 
 pub returns-in_default : goal.returns-in_default
 returns-in_default c =

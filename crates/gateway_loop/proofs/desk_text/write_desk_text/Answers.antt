@@ -3,7 +3,7 @@ use Rattle.byte_io.specs.Streams.{sink_value}
 use Rattle.byte_io.specs.Writes.{Writes, WritesPart, WritesText}
 use Rattle.json_lines.specs.PacketLines.{packet_text}
 use Rattle.gateway_core.specs.Desks.{desk_bytes}
-use Rattle.gateway_loop.proofs.WriteLemmas.{part_of_front, writes_behind, writes_part}
+use Rattle.gateway_loop.proofs.WriteLemmas.{part_of_front, writes-append, writes_part}
 use Rattle.gateway_loop.proofs.desk_text.write_desk_text.Goals as goal
 use Rattle.gateway_loop.proofs.desk_text.write_desk_text.Goals.{then-explains+in-Some+in_ok-write_text, else-explains}
 use Rattle.gateway_loop.proofs.desk_text.write_desk_text.Goals.{then-explains+in_default}
@@ -38,7 +38,7 @@ returns g c =
             rw (w.writer-is, ← w.packet_line.ensures, ← w.as_slice.ensures.value)
             w.in_ok-write_text.ensures.written in
             rw (w.if-explains.true, w.in-Some.is)
-            (writes_behind old (sink c.if-explains.writer) new r (packet_text w.in-Some.line.now) text first desk)
+            (writes-append old (sink c.if-explains.writer) new r (packet_text w.in-Some.line.now) text first desk)
         | then-explains+in_default w ↦ rw (w.if-explains.true, w.in_default.is) (rw w.writer-is at desk)
         | else-explains w ↦ rw w.if-explains.false (rw w.writer-is at desk)
       ];

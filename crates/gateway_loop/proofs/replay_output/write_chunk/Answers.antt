@@ -1,8 +1,7 @@
 use Rattle.std.proofs.Common.{rules, ◌≡◌, ◌++◌, codes}
 use Rattle.byte_io.specs.Streams.{sink_value}
 use Rattle.hex.specs.Hex.{encode_lower}
-use Rattle.gateway_loop.proofs.ResultLemmas.{OnOk-where_ok}
-use Rattle.gateway_loop.proofs.WriteLemmas.{part_of_front, part_of_back, writes_behind, writes_part}
+use Rattle.gateway_loop.proofs.WriteLemmas.{OnOk-where_ok, part_of_front, part_of_back, writes-append, writes_part}
 use Rattle.gateway_loop.proofs.replay_output.write_chunk.Goals as goal
 
 pub returns-in_err-write_text : goal.returns-in_err-write_text
@@ -40,9 +39,9 @@ returns g c =
     c.encode_to_slice.ensures.written in
     record {
       written =
-          writes_behind (sink c.args.writer.now) (sink c.write_text.new.writer) (sink c.write_text-3.new.writer)
+          writes-append (sink c.args.writer.now) (sink c.write_text.new.writer) (sink c.write_text-3.new.writer)
           c.write_text-3.result (codes "S ") (digits ++ codes "\n") c.in_ok-write_text.ensures.written
-          (writes_behind (sink c.write_text.new.writer) (sink c.write_text-2.new.writer)
+          (writes-append (sink c.write_text.new.writer) (sink c.write_text-2.new.writer)
           (sink c.write_text-3.new.writer) c.write_text-3.result digits (codes "\n")
           (rw spelled at c.in_ok-write_text-2.ensures.written)
           c.write_text-3.ensures.written);

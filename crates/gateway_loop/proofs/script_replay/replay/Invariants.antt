@@ -13,10 +13,10 @@ invariant-loop-turn g l = record {
   gateway : l.splitter.driver.gateway.ghost_name ≡ l.initial.splitter.driver.gateway.ghost_name;
   writer : l.splitter.driver.reply_sink.sink.ghost_name ≡ l.initial.splitter.driver.reply_sink.sink.ghost_name;
   idle : HasNoReadyPacket l.splitter.driver.gateway.now;
-  progress : (parts : List (List ℕ)) × (length parts ≡ l._turn)
-      × AllReadsSucceed (source_value g.R.Source l.fn.reader) (source_value g.R.Source l.reader) parts
-      × NoneIsEmpty parts
+  progress : (reads : List (List ℕ)) × (length reads ≡ l._turn)
+      × AllReadsSucceed (source_value g.R.Source l.fn.reader) (source_value g.R.Source l.reader) reads
+      × NoneIsEmpty reads
       × TakesEndedLines g.S.DeviceStore.store_state
       (replay_output_of g.W.Sink) ScriptLines l.initial.splitter l.splitter
-      (concat parts);
+      (concat reads);
 }

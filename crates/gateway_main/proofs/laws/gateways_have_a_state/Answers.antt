@@ -5,12 +5,14 @@ use Rattle.gateway_core.specs.Handling.{HandlerValue, HasStateWhileHonest}
 use Rattle.gateway_main.proofs.laws.gateways_have_a_state.Goals as goal
 
 -- the base ID, the mode and the counters are known by themselves, and the devices by the registry
-knows_state : {C : Type 0} (state : C → State) (commits : C → Option ℕ) (v : HandlerValue C)
-    → HasSomeDevicesIfOpen (state v.registry)
-    → HasStateWhileHonest (registry_state_of state commits) v
-knows_state state commits v holds clean =
-    let some = holds clean in
-    (record { base = v.base; mode = v.mode; counts = v.counts; devices = some.0 }, (refl, refl, some.1, refl))
+knows_state : {C : Type 0} (state : C → State) (commits : C → Option ℕ) (handler : HandlerValue C)
+    → HasSomeDevicesIfOpen (state handler.registry)
+    → HasStateWhileHonest (registry_state_of state commits) handler
+knows_state state commits handler holds clean =
+    let (devices, held) = holds clean in (
+      record { base = handler.base; mode = handler.mode; counts = handler.counts; devices = devices },
+      (refl, refl, held, refl),
+    )
 
 pub returns : goal.returns
 returns g c =

@@ -18,14 +18,14 @@ returns-clause-taken g c =
       ready = packet ∷ [];
       rest = old.rest;
     } in
-    let ready : framer.ready ≡ [] = ap (λ (v : GatewayValue Over). v.ready) c.self.view_is ∙ c.requires in
-    let rest : framer.rest ≡ old.rest = ap (λ (v : GatewayValue Over). v.rest) c.self.view_is in
+    let ready : framer.ready ≡ [] = ap (λ (gateway : GatewayValue Over). gateway.ready) c.self.view_is ∙ c.requires in
+    let rest : framer.rest ≡ old.rest = ap (λ (gateway : GatewayValue Over). gateway.rest) c.self.view_is in
     let framed : packets_and_rest (old.rest ++ bytes) ≡ record { ready = packet ∷ []; rest = framer.rest } =
     ap (λ (r : List ℕ). packets_and_rest (r ++ bytes)) (sym rest) ∙ c.in_ok-packet.ensures.taken in (
       mid,
       (
         c.requires,
-        ap (λ (v : GatewayValue Over). v.handler) c.self.view_is,
+        ap (λ (gateway : GatewayValue Over). gateway.handler) c.self.view_is,
         sym (ap (λ (f : PacketsAndRest). f.ready) framed),
         sym (ap (λ (f : PacketsAndRest). f.rest) framed ∙ rest),
       ),

@@ -1,7 +1,7 @@
 use Rattle.std.proofs.Common.{Ok, ap, subst, ◌∙◌}
 use Rattle.learned_devices.specs.StoreCalls.{Relabels}
 use Rattle.learned_devices.proofs.ForCallers.{relabel_adds_one}
-use Rattle.gateway_core.proofs.AttemptLemmas.{label-applies_or_fails, label-failed, tries}
+use Rattle.gateway_core.proofs.AttemptLemmas.{label-applies_or_fails, label-failed, attempts-called}
 use Rattle.gateway_core.proofs.handler.Handler.try_label.Goals as goal
 use Rattle.gateway_core.proofs.handler.Handler.try_label.Goals.{in-Ok-true, in-Ok-false, in-Err}
 
@@ -12,7 +12,7 @@ returns g c =
     let new = c.relabel.new.self in
     let relabels = c.relabel.ensures.relabels in
     let Was = Relabels (stored old) (stored new) c.args.id c.args.label in
-    rw (← c.self.view_is) (tries stored _ _ _ _ _ _ _ relabels.clean relabels.reopenable
+    rw (← c.self.view_is) (attempts-called stored _ _ _ _ relabels.clean relabels.reopenable
     (λ honest. relabel_adds_one c.relabel.result (relabels.commits honest))
     (λ honest devices has.
     elim c.match-relabel.branch [

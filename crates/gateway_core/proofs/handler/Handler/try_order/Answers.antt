@@ -1,29 +1,33 @@
 use Rattle.std.proofs.Common.{false}
-use Rattle.gateway_core.proofs.AttemptLemmas.{opens-applies_or_fails, tries-alone}
+use Rattle.teach_in.specs.declared.mode.Mode.TheVariants.{LearnAs}
+use Rattle.gateway_core.proofs.AttemptLemmas.{applies-unchanged, mode-unchanging, attempts-unasked}
 use Rattle.gateway_core.proofs.handler.Handler.try_order.Goals as goal
+use Rattle.gateway_core.specs.Step.{if_supported_else_error, mode_effect}
 
 pub returns-in-LearnOn : goal.returns-in-LearnOn
 returns-in-LearnOn g c =
-    rw c.in-LearnOn.is (tries-alone g.S.DeviceStore.store_state _ _ _ (λ devices keeps. (c.mode_effect.ensures, keeps)))
+    rw c.in-LearnOn.is (attempts-unasked g.S.DeviceStore.store_state _ _ _ (λ devices keeps.
+    (c.mode_effect.ensures, keeps)))
 
 pub returns-in-LearnOnAnswer : goal.returns-in-LearnOnAnswer
 returns-in-LearnOnAnswer g c =
     rw c.in-LearnOnAnswer.is
-    (tries-alone g.S.DeviceStore.store_state _ _ _ (λ devices keeps. (c.mode_effect-in-LearnOnAnswer.ensures, keeps)))
+    (attempts-unasked g.S.DeviceStore.store_state _ _ _ (λ devices keeps.
+    (c.mode_effect-in-LearnOnAnswer.ensures, keeps)))
 
 pub returns-in-LearnAs : goal.returns-in-LearnAs
 returns-in-LearnAs g c =
     rw c.in-LearnAs.is
-    (tries-alone g.S.DeviceStore.store_state _ _ _
+    (attempts-unasked g.S.DeviceStore.store_state _ _ _
     (λ devices keeps.
-    opens-applies_or_fails g.S.DeviceStore.store_state c.args.self.now.registry c.args.self.now.registry devices
-    c.in-LearnAs.eep
-    c.learn_as_if_supported.result c.learn_as_if_supported.ensures keeps))
+    applies-unchanged g.S.DeviceStore.store_state c.args.self.now.registry c.args.self.now.registry devices
+    (if_supported_else_error c.in-LearnAs.eep (mode_effect (LearnAs c.in-LearnAs.eep))) c.learn_as_if_supported.result
+    (mode-unchanging c.in-LearnAs.eep (LearnAs c.in-LearnAs.eep)) c.learn_as_if_supported.ensures keeps))
 
 pub returns-in-LearnOff : goal.returns-in-LearnOff
 returns-in-LearnOff g c =
     rw c.in-LearnOff.is
-    (tries-alone g.S.DeviceStore.store_state _ _ _ (λ devices keeps. (c.mode_effect-in-LearnOff.ensures, keeps)))
+    (attempts-unasked g.S.DeviceStore.store_state _ _ _ (λ devices keeps. (c.mode_effect-in-LearnOff.ensures, keeps)))
 
 pub returns-in-Add : goal.returns-in-Add
 returns-in-Add g c = rw c.in-Add.is c.try_add.ensures
@@ -42,5 +46,5 @@ returns-in-Status g c = rw c.in-Status.is c.try_status.ensures
 
 pub returns-in-Base : goal.returns-in-Base
 returns-in-Base g c =
-    rw c.in-Base.is (tries-alone g.S.DeviceStore.store_state _ _ _
+    rw c.in-Base.is (attempts-unasked g.S.DeviceStore.store_state _ _ _
     (λ devices keeps. (c.base_id_request_effect.ensures false, keeps)))

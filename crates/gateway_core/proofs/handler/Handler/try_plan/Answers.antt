@@ -3,8 +3,9 @@ use Rattle.std.proofs.lemmas.Result.{err_from_is_err_and}
 use Rattle.teach_in.specs.declared.plans.Plan.TheVariants.{Add, Forget, Refuse}
 use Rattle.teach_in.specs.Plans.{plan_of}
 use Rattle.gateway_core.specs.private.Attempts.{HasReplyCodeIfQuery, state_of}
-use Rattle.gateway_core.proofs.QueryLemmas.{can_reply}
-use Rattle.gateway_core.proofs.AttemptLemmas.{line_reported, permits-memory, refused-gives, tries-alone, tries-same}
+use Rattle.gateway_core.proofs.TelegramLemmas.{can_reply}
+use Rattle.gateway_core.proofs.AttemptLemmas.{line_reported, permits-memory, refused-gives, attempts-unasked}
+use Rattle.gateway_core.proofs.AttemptLemmas.{attempts-same_effect}
 use Rattle.gateway_core.proofs.handler.Handler.try_plan.Goals as goal
 
 pub try_accept-requires-clause-accepted : goal.try_accept-requires-clause-accepted
@@ -34,33 +35,34 @@ returns-in_err-refused-in-Refuse g c =
     err_from_is_err_and c.from_residual.result c.from_residual.ensures.1 in
     let plan = sym c.plan_for.ensures ∙ c.in-Refuse.is in
     rw (← c.self.view_is, error.1, error.2)
-    (tries-alone g.S.DeviceStore.store_state _ _ _ (λ devices keeps. rw plan (permits-memory c.args.is_data, keeps)))
+    (attempts-unasked g.S.DeviceStore.store_state _ _ _ (λ devices keeps. rw plan
+    (permits-memory c.args.is_data, keeps)))
 
 pub returns-in-Silent : goal.returns-in-Silent
 returns-in-Silent g c =
     let plan = sym c.plan_for.ensures ∙ c.in-Silent.is in
-    rw (← c.self.view_is) (tries-alone g.S.DeviceStore.store_state _ _ _
+    rw (← c.self.view_is) (attempts-unasked g.S.DeviceStore.store_state _ _ _
     (λ devices keeps. rw (plan, ← c.why_nothing_done.ensures) (c.ignored_effect.ensures c.args.is_data, keeps)))
 
 pub returns-in-Add : goal.returns-in-Add
 returns-in-Add g c =
     let plan : plan_of c.args.telegram.now c.args.self.now.mode false ≡ Add c.in-Add.device =
     rw (← c.self.view_is) (sym c.plan_for.ensures ∙ c.in-Add.is) in
-    tries-same g.S.DeviceStore.store_state _ _ _ _ _ (λ devices. rw (plan, ← c.requires) refl)
+    attempts-same_effect g.S.DeviceStore.store_state _ _ _ _ _ (λ devices. rw (plan, ← c.requires) refl)
     c.try_accept.ensures
 
 pub returns-in-Forget : goal.returns-in-Forget
 returns-in-Forget g c =
     let plan : plan_of c.args.telegram.now c.args.self.now.mode false ≡ Forget c.in-Forget.id =
     rw (← c.self.view_is) (sym c.plan_for.ensures ∙ c.in-Forget.is) in
-    tries-same g.S.DeviceStore.store_state _ _ _ _ _ (λ devices. rw (plan, ← c.requires) refl)
+    attempts-same_effect g.S.DeviceStore.store_state _ _ _ _ _ (λ devices. rw (plan, ← c.requires) refl)
     c.try_forget.ensures
 
 pub returns-in_ok-refused-in-Refuse : goal.returns-in_ok-refused-in-Refuse
 returns-in_ok-refused-in-Refuse g c =
     let plan : plan_of c.args.telegram.now c.args.self.now.mode false ≡ Refuse c.in-Refuse.outcome =
     rw (← c.self.view_is) (sym c.plan_for.ensures ∙ c.in-Refuse.is) in
-    tries-alone g.S.DeviceStore.store_state _ _ _
+    attempts-unasked g.S.DeviceStore.store_state _ _ _
     (λ devices keeps.
     rw plan (
       refused-gives c.in_ok-refused-in-Refuse.refused (state_of c.args.self.now devices) c.args.telegram.now

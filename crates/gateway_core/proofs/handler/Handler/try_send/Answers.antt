@@ -1,72 +1,61 @@
-use Rattle.std.proofs.Common.{◌≡◌, true, false, Some, None, Ok, sym, ap, subst, ◌∙◌}
-use Rattle.std.specs.Prelude.{is_some}
+use Rattle.std.proofs.Common.{◌≡◌, true, false, Some, None, Ok, sym, ◌∙◌, ℕ}
+use Rattle.std.specs.Prelude.{is_some, Option}
 use Rattle.std.proofs.lemmas.Result.{err_from_is_err_and}
-use Rattle.desk_orders.specs.Recipients.{recipient_id}
+use Rattle.desk_orders.specs.Recipients.{recipient_id, sends}
 use Rattle.actuator_commands.specs.Packets.{order_telegram}
 use Rattle.std.specs.Option.{option_copied}
 use Rattle.learned_devices.specs.Devices.{device_of}
-use Rattle.learned_devices.proofs.ForCallers.{no_more_commits}
-use Rattle.gateway_core.specs.Step.{Effect, NeedsStore, recipient_device, send_result_effect}
-use Rattle.gateway_core.specs.private.Attempts.{AppliesOrFails, MatchesEffect, state_of}
+use Rattle.gateway_core.specs.Step.{recipient_device, send_result_effect, order_effect, State}
+use Rattle.gateway_core.specs.private.Attempts.{MatchesEffect, state_of}
 use Rattle.gateway_core.proofs.EffectLemmas.{sends-effect}
-use Rattle.gateway_core.proofs.AttemptLemmas.{known_with, permitted, telegram-applies_or_fails, telegram-need}
-use Rattle.gateway_core.proofs.AttemptLemmas.{tries-alone, tries}
+use Rattle.gateway_core.proofs.AttemptLemmas.{permitted, telegram-need, attempts-unasked, send-unchanging}
+use Rattle.gateway_core.proofs.AttemptLemmas.{attempts-looked_up, applies-unchanged, known_with}
 use Rattle.gateway_core.proofs.handler.Handler.try_send.Goals as goal
+use Rattle.desk_orders.specs.declared.orders.Order.{Order}
+
+-- the effect of the order, by its recipient
+order-sends : (state : State) (order : Order) (id : Option ℕ) → sends order ≡ true → recipient_id order ≡ id
+    → order_effect state (Ok order)
+    ≡ send_result_effect (is_some id) (order_telegram order (recipient_device state.devices id) state.base)
+order-sends state order id is recipient = rw (sends-effect state order is, recipient)
 
 pub returns-in_default : goal.returns-in_default
 returns-in_default g c =
-    let none : recipient_id c.args.order.now ≡ None = sym c.recipient_id.ensures ∙ c.in_default.is in
-    let gives : MatchesEffect c.send.result (send_result_effect false
-    (order_telegram c.args.order.now None c.args.self.now.base)) =
+    let stored = g.S.DeviceStore.store_state in
+    let handler = c.args.self.now in
+    let telegram = order_telegram c.args.order.now None handler.base in
+    let gives : MatchesEffect c.send.result (send_result_effect false telegram) =
     rw (← c.self.view_is) (c.send.ensures false) in
-    tries-alone g.S.DeviceStore.store_state _ _ _
+    attempts-unasked stored _ _ _
     (λ devices keeps.
-    let now = state_of c.args.self.now devices in
-    let effect = sends-effect now c.args.order.now c.requires.sends
-    ∙ ap (λ id. send_result_effect (is_some id)
-    (order_telegram c.args.order.now (recipient_device devices id) now.base)) none in
-    let known = g.S.DeviceStore.store_state c.args.self.now.registry in
-    subst (λ e. AppliesOrFails known known devices e
-    (Ok c.send.result))
-    (sym effect)
-    (telegram-applies_or_fails g.S.DeviceStore.store_state c.args.self.now.registry c.args.self.now.registry devices
-    false
-    (order_telegram c.args.order.now None now.base) c.send.result gives keeps))
+    rw (order-sends (state_of handler devices) c.args.order.now None c.requires.sends
+    (sym c.recipient_id.ensures ∙ c.in_default.is))
+    (applies-unchanged stored handler.registry handler.registry devices (send_result_effect false telegram)
+    c.send.result (send-unchanging false telegram) gives keeps))
 
 pub returns-in_err-device : goal.returns-in_err-device
 returns-in_err-device g c =
     let error = err_from_is_err_and c.from_residual.result c.from_residual.ensures.1 in
-    let some : recipient_id c.args.order.now ≡ Some c.in-Some.id = sym c.recipient_id.ensures ∙ c.in-Some.is in
+    let base = c.self.inside.base in
     rw (← c.self.view_is, error.1, error.2)
-    (tries g.S.DeviceStore.store_state _ _ _ _ _ _ _ c.find.ensures.clean c.find.ensures.reopenable
-    (λ honest. no_more_commits 1 (c.find.ensures.commits honest))
-    (λ honest devices has.
-    let now = known_with c.self.inside.base c.self.inside.mode c.self.inside.counts devices in
-    let effect = sends-effect now c.args.order.now c.requires.sends
-    ∙ ap (λ id. send_result_effect (is_some id)
-    (order_telegram c.args.order.now (recipient_device devices id) now.base)) some in (
-      permitted _ _ (subst (λ (e : Effect). e.need ≡ NeedsStore) (sym effect)
-          (telegram-need (order_telegram c.args.order.now (device_of devices c.in-Some.id) now.base))),
-      c.in_err-device.ensures.devices honest devices has,
-    )))
+    (attempts-looked_up g.S.DeviceStore.store_state _ _ _ _ _ _ c.in_err-device.ensures
+    (λ devices keeps.
+    rw (order-sends (known_with base c.self.inside.mode c.self.inside.counts devices) c.args.order.now
+    (Some c.in-Some.id) c.requires.sends (sym c.recipient_id.ensures ∙ c.in-Some.is))
+    (permitted _ _ (telegram-need (order_telegram c.args.order.now (device_of devices c.in-Some.id) base)), keeps)))
 
 pub returns : goal.returns
 returns g c =
-    let some : recipient_id c.args.order.now ≡ Some c.in-Some.id = sym c.recipient_id.ensures ∙ c.in-Some.is in
-    rw (← c.self.view_is)
-    (tries g.S.DeviceStore.store_state _ _ _ _ _ _ _ c.find.ensures.clean c.find.ensures.reopenable
-    (λ honest. no_more_commits 1 (c.find.ensures.commits honest))
-    (λ honest devices has.
-    let found = c.in_ok-device.ensures.devices honest devices has in
-    let now = known_with c.self.inside.base c.self.inside.mode c.self.inside.counts devices in
-    let effect = sends-effect now c.args.order.now c.requires.sends
-    ∙ ap (λ id. send_result_effect (is_some id)
-    (order_telegram c.args.order.now (recipient_device devices id) now.base)) some
-    ∙ ap (λ known. send_result_effect true (order_telegram c.args.order.now known now.base))
-    (sym (c.as_ref.ensures.value ∙ found.0)) in
     let stored = g.S.DeviceStore.store_state in
-    subst (λ e. AppliesOrFails (stored c.self.inside.registry) (stored c.find.new.self) devices e (Ok c.send-2.result))
-    (sym effect)
-    (telegram-applies_or_fails g.S.DeviceStore.store_state c.self.inside.registry c.find.new.self devices true
-    (order_telegram c.args.order.now (option_copied c.as_ref.result) now.base) c.send-2.result (c.send-2.ensures true)
-    found.1)))
+    let base = c.self.inside.base in
+    let telegram = order_telegram c.args.order.now (option_copied c.as_ref.result) base in
+    rw (← c.self.view_is)
+    (attempts-looked_up stored _ _ _ _ _ _ c.in_ok-device.ensures
+    (λ devices found.
+    rw (
+      order-sends (known_with base c.self.inside.mode c.self.inside.counts devices) c.args.order.now
+          (Some c.in-Some.id) c.requires.sends (sym c.recipient_id.ensures ∙ c.in-Some.is),
+      sym (c.as_ref.ensures.value ∙ found.0),
+    )
+    (applies-unchanged stored c.self.inside.registry c.find.new.self devices (send_result_effect true telegram)
+    c.send-2.result (send-unchanging true telegram) (c.send-2.ensures true) found.1)))

@@ -1,7 +1,6 @@
 use Rattle.std.proofs.lemmas.Result.{MatchResult-weaker}
-use Rattle.gateway_core.specs.Replies.{answer_of}
 use Rattle.gateway_core.specs.Step.{Ordered}
-use Rattle.gateway_loop.proofs.DriverStepLemmas.{takes_order, breaks_at_order}
+use Rattle.gateway_loop.proofs.DriverStepLemmas.{takes-order, breaks-order}
 use Rattle.gateway_loop.proofs.driver.Driver.process_order.Goals as goal
 
 pub answer_order-requires : goal.answer_order-requires
@@ -11,14 +10,10 @@ answer_order-requires g c =
 
 pub returns-clause-taken : goal.returns-clause-taken
 returns-clause-taken g c =
-    let stored = g.S.DeviceStore.store_state in
     let output = g.O.ReplySink.output in
     let old = c.args.self.now in
     let new = c.answer_order.new.self in
-    let line = c.args.line.now in
-    let answer = answer_of c.order-reply.result in
+    let handled = rw (← c.answer_order.ensures.kept) at c.order-reply.ensures in
     MatchResult-weaker c.answer_order.result c.answer_order.ensures.put
-    (λ _ out. takes_order stored output old new line answer c.requires
-    (rw c.answer_order.ensures.kept c.order-reply.ensures) out c.answer_order.ensures.counted)
-    (λ _ out. breaks_at_order stored output old new line answer c.requires
-    (rw c.answer_order.ensures.kept c.order-reply.ensures) out)
+    (λ _ out. takes-order output old new c.requires handled out c.answer_order.ensures.counted)
+    (λ _ out. breaks-order output old new c.requires handled out)

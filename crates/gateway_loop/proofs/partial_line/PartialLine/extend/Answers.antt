@@ -2,7 +2,7 @@ use Rattle.std.proofs.Common.{◌≡◌, arith, min, length, ◌≤◌, ◌+◌,
 use Rattle.std.proofs.lemmas.List.{length-take}
 use Rattle.gateway_loop.specs.private.Lines.{max_partial_line}
 use Rattle.gateway_loop.proofs.ListLemmas.{take-append}
-use Rattle.gateway_loop.proofs.ResultLemmas.{OnOk-where_ok}
+use Rattle.gateway_loop.proofs.WriteLemmas.{OnOk-where_ok}
 use Rattle.gateway_loop.proofs.partial_line.PartialLine.extend.Goals as goal
 
 pub returns : goal.returns

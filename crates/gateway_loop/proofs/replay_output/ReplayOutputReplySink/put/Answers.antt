@@ -1,13 +1,13 @@
 use Rattle.std.proofs.Common.{◌≡◌, [], ◌++◌, ap, refl, sym, ◌∙◌, subst, Some, None}
 use Rattle.std.specs.Option.{option_copied, option_map}
+use Rattle.std.proofs.lemmas.Result.{err_from_is_err_and}
 use Rattle.gateway_core.specs.Replies.{answer_of}
 use Rattle.gateway_core.specs.Step.{with_packet_line}
 use Rattle.byte_io.specs.Streams.{SinkValue, sink_value}
 use Rattle.byte_io.specs.Writes.{Writes, WritesPart, WritesText}
 use Rattle.gateway_loop.specs.TextOutput.{text_output}
 use Rattle.gateway_loop.specs.Written.{desk_text, radio_chunk_line, text_of}
-use Rattle.gateway_loop.proofs.TextOutputLemmas.{puts_by, puts_one}
-use Rattle.gateway_loop.proofs.WriteLemmas.{part_of_front, writes_behind, writes_part}
+use Rattle.gateway_loop.proofs.WriteLemmas.{puts_by, puts_one, part_of_front, writes-append}
 use Rattle.gateway_loop.proofs.replay_output.ReplayOutputReplySink.put.Goals as goal
 use Rattle.gateway_loop.proofs.replay_output.ReplayOutputReplySink.put.Goals.{in-Some+in_ok-write_chunk, in_default}
 
@@ -22,10 +22,8 @@ returns-in_err-write_chunk-clause-put g c =
     let part : WritesPart old new [] (radio_chunk_line answer.radio) =
     subst (λ r. WritesPart old new [] (radio_chunk_line r))
     (sym radio) c.in_err-write_chunk.ensures.written in
-    puts_by (λ flag. text_output (text_of flag)) c.from_residual.result (explains, old) (explains, new) answer refl
-    (puts_one c.from_residual.result (text_of explains) old new answer
-    (writes_part _ _ _ _ _ c.from_residual.ensures.1
-    (part_of_front old new (radio_chunk_line answer.radio) (desk_text explains answer) part)))
+    rw (err_from_is_err_and c.from_residual.result c.from_residual.ensures.1).1
+    (refl, part_of_front old new (radio_chunk_line answer.radio) (desk_text explains answer) part)
 
 pub returns-clause-put : goal.returns-clause-put
 returns-clause-put g c =
@@ -47,7 +45,7 @@ returns-clause-put g c =
           rw (w.self-is, radio) w.in_ok-write_chunk.ensures.written in
           puts_by (λ flag. text_output (text_of flag)) r (explains, old) (now, new) answer same
           (puts_one r (text_of explains) old new answer
-          (writes_behind old mid new r (radio_chunk_line answer.radio)
+          (writes-append old mid new r (radio_chunk_line answer.radio)
           (desk_text explains answer) first desk))
       | in_default w ↦
           let same : now ≡ explains = ap (λ script. script.explains) w.self-is in
