@@ -19,7 +19,7 @@ from urllib3.exceptions import HTTPError
 from programs import Program, wait_for
 from services import CONTRIB
 
-PAGE = CONTRIB / "cockpit/enogate"
+PAGE_FOLDER = CONTRIB / "cockpit/enogate"
 SERVER = "/usr/lib/cockpit/cockpit-ws"
 UNIT = "/etc/systemd/system/multi-user.target.wants/enogate@{name}.service"
 # A stand-in for systemctl: the state of each service is in a file, and the orders to services are in another one.
@@ -29,6 +29,9 @@ case $1 in
 start | restart | enable)
     echo "$*" >>"{folder}/orders"
     printf 'ActiveState=active\\nSubState=running\\n' >"{folder}/$unit" ;;
+stop)
+    echo "$*" >>"{folder}/orders"
+    printf 'ActiveState=inactive\\nSubState=dead\\n' >"{folder}/$unit" ;;
 *) cat "{folder}/$unit" 2>/dev/null || printf 'ActiveState=inactive\\nSubState=dead\\n' ;;
 esac
 """
@@ -113,9 +116,9 @@ class Cockpit(Program):
         """Starts it, and waits until it answers. The bridge takes the home of the user from the list of users, so
         XDG_DATA_HOME names the folder of the page. Two variables keep the bridge from starting programs that stay."""
         pages = self.work / "share/cockpit/enogate"
-        shutil.copytree(PAGE, pages, dirs_exist_ok=True)
+        shutil.copytree(PAGE_FOLDER, pages, dirs_exist_ok=True)
         with (pages / "tables.js").open("wb") as file:
-            subprocess.run([PAGE.with_name("tables")], stdout=file, check=True)
+            subprocess.run([PAGE_FOLDER.with_name("tables")], stdout=file, check=True)
         with socket.socket() as free:
             free.bind(("127.0.0.1", 0))
             self.port = free.getsockname()[1]
@@ -191,6 +194,11 @@ class Browser:
 
     def click(self, selector: str) -> None:
         self.find(selector).click()
+
+    def save_files_in(self, folder: pathlib.Path) -> None:
+        """Files that are downloaded from now on are saved there."""
+        behaviour = {"behavior": "allow", "downloadPath": str(folder)}
+        self.driver.execute_cdp_cmd("Browser.setDownloadBehavior", behaviour)
 
     def resize(self, width: int, height: int) -> None:
         """The page has this size from now on, as on a phone."""

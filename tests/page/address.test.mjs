@@ -10,7 +10,7 @@ test("each view has an address", () => {
     for (const [section, part, address] of [
         ["overview", "", "#/overview"], ["devices", "", "#/devices"], ["devices", "silent", "#/devices/silent"],
         ["devices", "actuators", "#/devices/actuators"], ["devices", "misfit", "#/devices/misfit"],
-        ["device", "01800ABC", "#/device/01800ABC"],
+        ["devices", "battery", "#/devices/battery"], ["device", "01800ABC", "#/device/01800ABC"],
         ["groups", "", "#/groups"], ["add", "", "#/add"], ["packets", "", "#/packets"],
     ]) {
         assert.equal(addressOf(section, part), address);

@@ -522,7 +522,7 @@ test("after a device was removed, the list of the devices is opened", async () =
 
 test("the unknown senders of the same kind are offered for a replacement, the newest first", () => {
     const { paint, choices, field } = replacing();
-    assert.equal(byId("edit-no-sender").textContent, "No unknown device of this kind was heard yet.");
+    assert.equal(byId("edit-no-sender").textContent, "No new device of this kind was heard yet.");
     const take = (id, rorg, eep = null, why = "unknown_sender") =>
         page.model.take({ ...PACKET, id: `01800B${id}`, rorg, eep, why }, Date.now());
     take("01", "D5");
@@ -552,6 +552,19 @@ test("the unknown senders of the same kind are offered for a replacement, the ne
     assert.deepEqual([field.value, choices().length], ["", 0]);
     paint();
     assert.equal(choices().length, 0);
+});
+
+test("a device of this profile that was learned without a label is offered for a replacement, too", () => {
+    const { paint, choices } = replacing();
+    const learned = [{ id: DEVICE.id }, { id: "01800B31" }, { id: "01800B32" }, { id: "01800B33", eep: "A5-02-05" },
+                     { id: "01800B34", label: "Other door" }, { id: "01800B36" }];
+    learned.forEach(members => page.model.take({ ...DEVICE, label: "", ...members }));
+    page.model.take({ ...LIST, count: learned.length });
+    for (const [id, time] of [["31", 2000], ["32", 9000], ["34", 4000]])
+        page.model.take({ ...READING, eep: DEVICE.eep, id: `01800B${id}` }, time);
+    page.model.take({ ...PACKET, id: "01800B35", rorg: "D5" }, 5000);
+    paint();
+    assert.deepEqual(choices().map(({ firstChild }) => firstChild.textContent.slice(-2)), ["32", "35", "31", "36"]);
 });
 
 test("a device is replaced by the one with the ID in the field, and the view of that is opened", async () => {

@@ -24,7 +24,7 @@ function modelOf(...devices) {
 /** What needs attention: the level, the text and the button of each problem. */
 function attention(model, { sent = new Map(), minutes = 10, ...more } = {}) {
     const groups = health.devicesByState(model, sent, NOW, minutes);
-    const facts = { name: "hall", why: "", states: RUNNING, hasStick: true, settings: new Map() };
+    const facts = { name: "hall", why: "", states: RUNNING, hasStick: true, settings: new Map(), space: null };
     return health.findProblems({ ...facts, model, groups, now: NOW, ...more });
 }
 const texts = (...given) => attention(...given).map(({ level, text, action }) => `${level}: ${text} [${action}]`);
@@ -32,7 +32,7 @@ const texts = (...given) => attention(...given).map(({ level, text, action }) =>
 test("a signal has one to four bars, and one bar is weak", () => {
     const levels = [null, -100, -86, -85, -76, -75, -66, -65, 0];
     assert.deepEqual(levels.map(health.signalBars), [0, 1, 1, 2, 2, 3, 3, 4, 4]);
-    const devices = new Map(levels.map((dbm, number) => [String(number), { dbm, received: NOW }]));
+    const devices = new Map(levels.map((dbm, number) => [String(number), { dbm, received: NOW, readings: new Map() }]));
     const { weak } = health.devicesByState({ devices, opened: 0 }, new Map(), NOW, 1);
     assert.deepEqual(weak.map(([, { dbm }]) => dbm), [-100, -86]);
 });
@@ -47,6 +47,40 @@ test("a device that was not received since the page was opened is quiet after th
     assert.ok(!isQuiet({ received: null, recorded: 570000 }, 600000, 600001, 1));
 });
 
+test("without a time, a device is silent after three usual intervals of its profile", () => {
+    const isQuiet = (eep, seconds) => health.isQuiet({ eep, received: 0 }, 0, 1000 * seconds, null);
+    for (const [eep, seconds] of [["A5-02-05", 3 * 1200], ["D5-00-01", 3 * 1800]])
+        assert.deepEqual([isQuiet(eep, seconds), isQuiet(eep, seconds + 0.001)], [false, true], eep);
+    assert.deepEqual(["F6-02-01", "D2-01-12", "A5-12-01", "D2-FF-FF"].map(eep => isQuiet(eep, 1e9)),
+                     Array(4).fill(false));
+});
+
+test("a device whose supply voltage is low is listed, and many are counted", () => {
+    const volts = (num, den) => [{ name: "SVC", num, den, unit: "V" }];
+    const take = (model, id, readings) =>
+        model.take({ ...READING, id: `01800A${id}`, eep: "A5-08-01", dbm: -50, readings }, NOW);
+    const model = modelOf();
+    take(model, "01", volts(249, 100));
+    take(model, "02", volts(5, 2));
+    take(model, "03", [{ name: "SVC", word: "error" }]);
+    take(model, "04", [{ name: "PIRS", word: "on" }]);
+    assert.deepEqual(attention(model).map(({ level, text, target }) => [level, text, target]),
+                     [["warn", "01800A01 has a low battery: 2.49 V", "#/device/01800A01"]]);
+    for (const id of ["02", "03", "04"])
+        take(model, id, volts(2, 1));
+    const [{ text, detail, target }] = attention(model);
+    assert.deepEqual([text, detail, target], ["4 devices have a low battery", "01800A01, 01800A02, 01800A03 …",
+                                              "#/devices/battery"]);
+});
+
+test("little space on the disk needs attention, also if the gateway works", () => {
+    const model = modelOf(["01", -50, NOW]);
+    assert.deepEqual(texts(model, { space: 99 }), ["warn: Only 99 MB are free on the disk [undefined]"]);
+    assert.deepEqual([null, 100, 5000].map(space => texts(model, { space })), [[], [], []]);
+    assert.deepEqual(texts(model, { space: 0, states: { ActiveState: "failed" } }),
+                     ["bad: The gateway hall is stopped [Start]", "warn: Only 0 MB are free on the disk [undefined]"]);
+});
+
 test("devices are grouped by what is known of them", () => {
     const model = modelOf(["01", -50, NOW], ["02", -90, NOW - 20 * MINUTE], ["03", -85, null]);
     model.opened = NOW - MINUTE;
@@ -57,7 +91,7 @@ test("devices are grouped by what is known of them", () => {
     const ids = Object.fromEntries(Object.entries(groups).map(([name, found]) =>
         [name, found.map(([id]) => id.slice(-2)).join()]));
     assert.deepEqual(ids, { all: "01,02,03,04", silent: "02", heard: "01,04", weak: "02,04", actuators: "04",
-                            unanswered: "04", misfit: "", unheard: "" });
+                            unanswered: "04", misfit: "", unheard: "", battery: "" });
     const sentence = minutes => health.heardSentence(health.devicesByState(model, sent, NOW, minutes), model, minutes);
     assert.equal(sentence(10), "2 of 4 devices were heard in the last 10 min; for 1 this is not known yet.");
     assert.equal(sentence(120), "3 of 4 devices were heard in the last 2 h; for 1 this is not known yet.");

@@ -45,6 +45,7 @@ document.querySelectorAll = selector =>
     selector === "#sections a" ? tabs : selector === "#devices-states a" ? states : [];
 await import("../../contrib/cockpit/enogate/main.js");
 await settle();
+const spaceLooksAtStart = started("df").length;
 
 /** The section that is shown, and its tab. */
 function shown() {
@@ -206,8 +207,8 @@ test("who may write the desk gives orders without becoming root, but starts no s
     assert.deepEqual(started("test", "-w").at(-1).words, ["test", "-w", "/run/enogate/hall/desk"]);
     assert.equal(started("test", "-w").at(-1).options.superuser, undefined);
     view.open("#/overview");
-    assert.deepEqual([byId("gateway-refresh").disabled, byId("gateway-restart").disabled], [false, true]);
-    assert.equal(byId("gateway-note").textContent, "Restart, Back up and Set up need administrative access.");
+    assert.deepEqual(["refresh", "restart", "stop"].map(name => byId(`gateway-${name}`).disabled), [false, true, true]);
+    assert.equal(byId("gateway-note").textContent, "Restart, Stop, Back up and Set up need administrative access.");
     await bring({ ...RESPONSE, data: "FFA1B280" });
     const [problem] = byId("attention").children;
     assert.match(problem.textContent, /BASE is FF800000, .* is FFA1B280.*Restart$/);
@@ -217,6 +218,7 @@ test("who may write the desk gives orders without becoming root, but starts no s
     permission.changed();
     await settle();
     assert.deepEqual([byId("gateway-restart").disabled, byId("gateway-note").textContent], [false, ""]);
+    assert.equal(byId("gateway-stop").disabled, false);
     // It is not known yet what the user may do.
     permission.allowed = null;
     permission.changed();
@@ -229,6 +231,10 @@ test("who may write the desk gives orders without becoming root, but starts no s
     const { words, options } = started("systemctl", "restart").at(-1);
     assert.deepEqual([words, options.superuser], [["systemctl", "restart", "enogate@hall.service"], "require"]);
     assert.match(byId("gateway-note").textContent, /^Restarted at \d\d:\d\d:\d\d\.$/);
+    byId("gateway-stop").click();
+    await settle();
+    assert.deepEqual(started("systemctl", "stop").at(-1).words, ["systemctl", "stop", "enogate@hall.service"]);
+    assert.match(byId("gateway-note").textContent, /^Stopped at \d\d:\d\d:\d\d\.$/);
     // A restart that fails is an error of the page.
     const { outputOf } = machine;
     machine.outputOf = given => given[1] === "restart" ? Error("why") : outputOf(given);
@@ -242,12 +248,15 @@ test("who may write the desk gives orders without becoming root, but starts no s
 
 test("a service that is stopped can be started, and gets no orders", async () => {
     const { outputOf } = machine;
+    machine.outputOf = words => words[1] === "show" ? "ActiveState=failed\n" : outputOf(words);
+    await pass(3);
+    assert.equal(byId("gateway-stop").disabled, true);
     machine.outputOf = words => words[1] === "show" ? "ActiveState=inactive\n" : outputOf(words);
     await pass(3);
     assert.match(byId("verdict-title").textContent, /attention/);
     assert.equal(byId("verdict").dataset.level, "bad");
     assert.match(byId("attention").textContent, /The gateway hall is stopped/);
-    assert.equal(byId("gateway-refresh").disabled, true);
+    assert.deepEqual([byId("gateway-refresh").disabled, byId("gateway-stop").disabled], [true, true]);
     view.open("#/devices");
     assert.deepEqual([byId("feed").textContent, byId("feed").dataset.state], ["stopped", "stopped"]);
     assert.deepEqual([byId("trouble").hidden, byId("trouble-help").textContent], [false, "Start"]);
@@ -473,6 +482,73 @@ test("only an administrator writes a backup, and not a member of the group", asy
     assert.equal(started("enogatectl", "yard", "backup").length, 1);
 });
 
+test("sorted by time or signal, the devices are sorted again when the list is opened, and not before", async () => {
+    const ids = ["01800AF6", "01800AF7"];
+    const shownIds = () => byId("devices-rows").children.map(({ dataset }) => dataset.id)
+            .filter(id => ids.includes(id));
+    for (const column of ["received", "signal"]) {
+        for (const [id, dbm] of [[ids[0], -50], [ids[1], -90]])
+            await bring({ ...READING, id, dbm });
+        view.open("#/devices");
+        byId("devices-sort").enterValue(column, "change");
+        assert.deepEqual(shownIds(), [ids[1], ids[0]], column);
+        await bring({ ...READING, id: ids[0], dbm: -95 });
+        assert.deepEqual(shownIds(), [ids[1], ids[0]], column);
+        view.open("#/overview");
+        view.open("#/devices");
+        assert.deepEqual(shownIds(), ids, column);
+        byId("devices-sort").enterValue("label", "change");
+    }
+    view.open("#/overview");
+});
+
+test("after a reload, but not later, devices have the times that were known before it", async () => {
+    const line = { ...READING, id: "01800AF5" };
+    const choose = async number => {
+        byId("gateways").children[number].click();
+        await settle();
+    };
+    // The page is left, and so many seconds later it is open again, with what it has read then.
+    const ageAfterReload = async seconds => {
+        view.listeners.get("pagehide")();
+        await pass(seconds);
+        await choose(1);
+        await choose(0);
+        started("enogatectl", "hall", "lines").at(-1).write(`${JSON.stringify(line)}\n\n`);
+        await pass(1);
+        return byId("device-age").textContent;
+    };
+    await choose(0);
+    view.open("#/device/01800AF5");
+    await bring(line);
+    await pass(4);
+    assert.equal(await ageAfterReload(2), "last telegram: 8 s ago");
+    assert.equal(await ageAfterReload(2), "last telegram: 11 s ago", "a second reload");
+    assert.equal(await ageAfterReload(31), "last telegram: earlier");
+    await choose(1);
+    await bring(line);
+    assert.equal(await ageAfterReload(2), "last telegram: earlier", "the times are those of another gateway");
+    view.open("#/overview");
+});
+
+test("the free space is looked at when the page is opened, each minute, and not while it is hidden", async () => {
+    const looks = () => started("df").length;
+    assert.equal(spaceLooksAtStart, 1);
+    const [before, { outputOf }] = [looks(), machine];
+    machine.outputOf = words => words[0] === "df" ? "Avail\n   70\n  600\n" : outputOf(words);
+    view.open("#/overview");
+    await pass(120);
+    assert.deepEqual([looks() - before, byId("gateway-space").textContent], [2, "70 MB"]);
+    assert.match(byId("attention").textContent, /Only 70 MB are free on the disk/);
+    document.hidden = true;
+    await pass(61);
+    document.hidden = false;
+    assert.equal(looks() - before, 2);
+    Object.assign(machine, { outputOf });
+    await pass(60);
+    assert.equal(byId("gateway-space").textContent, "not known yet");
+});
+
 test("after how many hours a device is silent can be changed, and the browser stores it", async () => {
     view.open("#/devices");
     byId("gateways").children[1].click();
@@ -481,10 +557,11 @@ test("after how many hours a device is silent can be changed, and the browser st
     const hours = byId("devices-quiet");
     const isQuiet = () => byId("devices-rows").children[0].classList.contains("quiet");
     view.open("#/overview");
-    assert.deepEqual([hours.value, byId("verdict-text").textContent],
-                     ["24", "The device was heard in the last 24 h."]);
+    assert.deepEqual([hours.value, byId("verdict-text").textContent], ["", "The device was heard."]);
     view.open("#/devices");
-    for (const [text, seconds, wanted] of [["0.01", 35, false], ["0.01", 2, true], ["0", 0, false], ["24", 0, false]]) {
+    // The profile of the device has intervals of half an hour.
+    for (const [text, seconds, wanted] of [["0.01", 35, false], ["0.01", 2, true], ["0", 0, false], ["24", 0, false],
+                                           ["", 0, false], ["", 5400, true], ["0", 0, false], ["", 0, true]]) {
         hours.enterValue(text);
         await pass(seconds);
         assert.deepEqual([isQuiet(), localStorage.getItem("enogate-silent-hours")], [wanted, text]);

@@ -132,6 +132,21 @@ test("a telegram is later than a recorded one", () => {
     assert.equal(lastHeardTime(model.devices.get("01800ABC")), 9000);
 });
 
+test("a time from before a reload holds until a telegram arrives, or a time is recorded", () => {
+    const timeAfter = (...calls) => {
+        const model = new Model(0, new Map([[DEVICE.id, 600]]));
+        calls.forEach(call => call(model));
+        return lastHeardTime(model.devices.get(DEVICE.id));
+    };
+    const line = { ...READING, id: DEVICE.id, eep: DEVICE.eep };
+    const recorded = seen => model => model.takeRecorded([{ ...DEVICE, seen, dbm: null, readings: [] }]);
+    assert.equal(timeAfter(model => model.take(line, null)), 600);
+    assert.equal(timeAfter(model => model.take(line, null), recorded(null)), 600);
+    assert.equal(timeAfter(recorded(null)), 600);
+    assert.equal(timeAfter(recorded(700)), 700);
+    assert.equal(timeAfter(recorded(700), model => model.take(line, 800)), 800);
+});
+
 test("recorded readings are shown, without a time, until the lines have readings of the device", () => {
     const model = new Model(0);
     const shown = () => [...model.devices.get("01800ABC").readings.values()].map(({ reading }) => reading.word);

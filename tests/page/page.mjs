@@ -207,9 +207,11 @@ class Serve extends Process {
 export const processes = [];
 /**
  * What a process prints before it ends; null if it does not end by itself, and an Error if it fails. What happens when
- * a file is written. The test sets both.
+ * a file is written, and what is read from it. The test sets them.
  */
-export const machine = { outputOf: () => null, writeFile: async () => {} };
+export const machine = {
+    outputOf: () => null, writeFile: async () => {}, readFile: async () => "SERIAL=/dev/enocean\nBASE=ff800000\n",
+};
 
 function start(process) {
     processes.push(process);
@@ -277,7 +279,7 @@ globalThis.window = {
         ...messages,
         spawn,
         file: (path, options) => ({
-            read: () => Promise.resolve("SERIAL=/dev/enocean\nBASE=ff800000\n"),
+            read: () => machine.readFile(path, options),
             replace: (text, tag) => machine.writeFile(path, options, text, tag),
         }),
         permission: () => permission,

@@ -125,3 +125,13 @@ test("the desk of a gateway is where enogatectl has it", () => {
     const shown = String(execFileSync("python3", ["-B", "-c", program], { env }));
     assert.equal(shown, `${places.deskOf("hall")} ${places.linesOf("hall")}\n`);
 });
+
+test("of the two file systems that df prints, the one with less space counts", () => {
+    assert.equal(places.leastSpaceIn(" Avail\n 61234\n   512\n"), 512);
+    assert.equal(places.leastSpaceIn("Avail\n0\n"), 0);
+    assert.equal(places.leastSpaceIn("    Avail\n    9\n   12\n"), 9);
+    for (const output of ["", "Avail\n", "Avail\n -\n", "1x\n"])
+        assert.equal(places.leastSpaceIn(output), null, output);
+    assert.equal(places.SPACE_COMMAND.join(" "),
+                 "df --block-size=1M --output=avail /var/log/enogate /var/lib/enogate");
+});

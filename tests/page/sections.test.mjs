@@ -111,6 +111,30 @@ test("packets are filtered by ID, label and profile", () => {
                      [[0, 1, 2], [0], [1], [1], []]);
 });
 
+test("entries stay where they are while their signals and times change, but not while their labels do", () => {
+    const sorting = new Sorting(COLUMNS, document.createElement("select"), [], () => {}, ["signal", "received"]);
+    const device = { label: "", dbm: null, received: null, recorded: null };
+    const entriesOf = changes => Object.entries(changes).map(([id, change]) => [id, { ...device, ...change }]);
+    const order = changes => sorting.sorted(entriesOf(changes)).map(([id]) => id).join("");
+    for (const [column, first, second] of [["received", { received: 9 }, { received: 5 }],
+                                           ["signal", { dbm: -90 }, { dbm: -80 }]]) {
+        sorting.sortBy(column);
+        assert.equal(order({ A: second, B: first }), "BA");
+        assert.equal(order({ A: first, B: second }), "BA", "they have changed");
+        assert.equal(order({ A: first, B: second, C: {} }), "ABC", "there is another one");
+        assert.equal(order({ B: {}, C: first }), "CB", "one has gone");
+        assert.equal(order({ B: {}, D: first }), "DB", "another one has come for one");
+        assert.equal(order({ B: first, D: {} }), "DB", "they have changed again");
+        sorting.places.clear();
+        assert.equal(order({ B: first, D: {} }), "BD", "the section is opened again");
+        sorting.sortBy(column);
+        assert.equal(order({ B: first, D: {} }), "DB", "the direction is changed");
+    }
+    sorting.sortBy("label");
+    assert.deepEqual([order({ A: { label: "x" }, B: { label: "y" } }), order({ A: { label: "z" }, B: { label: "y" } })],
+                     ["AB", "BA"]);
+});
+
 test("a list is sorted by a click on a heading, a second time in the other direction, and by the field", () => {
     const field = document.createElement("select");
     const headings = ["label", "signal"].map(column => {

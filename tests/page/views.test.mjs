@@ -1,7 +1,8 @@
 import assert from "node:assert/strict";
+import { readFileSync } from "node:fs";
 import { beforeEach, test } from "node:test";
 
-import { byId, settle, started } from "./page.mjs";
+import { byId, machine, settle, started } from "./page.mjs";
 import { devicesByState } from "../../contrib/cockpit/enogate/health.js";
 import { Model } from "../../contrib/cockpit/enogate/model.js";
 import { DEVICE, HOSTILE, LIST, PACKET, READING, RESPONSE, STATUS } from "./samples.mjs";
@@ -33,8 +34,8 @@ beforeEach(() => {
     }
     page = {
         model, groups: devicesByState(model, new Map(), 2000, Infinity), sent: new Map(), query: "", part: "",
-        minutes: Infinity, canOrderNow: true, isQuiet: () => false, painter: { paintNow: () => {} }, gateway: "hall",
-        feedState: { why: "" },
+        minutes: Infinity, space: null, canOrderNow: true, isQuiet: () => false, painter: { paintNow: () => {} },
+        gateway: "hall", feedState: { why: "" },
         health: { states: { ActiveState: "active" }, hasStick: true }, settings: new Map([["BASE", "FFA1B280"]]),
         rights: { isAdmin: false, permission: { allowed: false } }, mayUseFix: () => false,
     };
@@ -211,6 +212,13 @@ test("the Overview has the numbers, the gateway and the counters", () => {
                      ["2", "5", "4", "1", "3"]);
     assert.deepEqual(["service", "stick", "base", "module", "window"].map(name => text(`gateway-${name}`)),
                      ["running", "plugged in", "FFA1B280", "not known yet", "as F6-02-01"]);
+    assert.deepEqual(["space", "version"].map(name => text(`gateway-${name}`)),
+                     ["not known yet", readFileSync("packaging/debian/changelog", "utf8").match(/\((.*)\)/)[1]]);
+    for (const [space, level] of [[99, "bad"], [100, ""]]) {
+        page.space = space;
+        section.paint();
+        assert.deepEqual([text("gateway-space"), byId("gateway-space").dataset.level], [`${space} MB`, level]);
+    }
     const levels = () => ["service", "stick", "module"].map(name => byId(`gateway-${name}`).dataset.level);
     assert.deepEqual(levels(), ["good", "good", ""]);
     page.model.take(RESPONSE, 1000);
@@ -296,6 +304,43 @@ test("a backup is written as root, and its path and the number of devices are sh
                                "this computer: keep a copy elsewhere.", false]);
     assert.ok(byId("gateway-note").isScrolledTo);
     assert.deepEqual(complaints, ["", ""]);
+});
+
+test("a backup that was written can be downloaded", async () => {
+    const { complaints, command, section } = backingUp();
+    const [{ createElement }, { readFile }, made, read] = [document, machine, [], []];
+    const hasDownload = () => !byId("gateway-download").hidden;
+    assert.equal(hasDownload(), false);
+    command.resolve("/var/backups/enogate/hall-2026-12-01.tar.gz: 3 devices\n");
+    await settle();
+    assert.equal(hasDownload(), true);
+    document.createElement = name => {
+        const link = createElement(name);
+        link.addEventListener("click", () => made.push([link.download, fetch(link.href)]));
+        return link;
+    };
+    machine.readFile = async (...words) => {
+        read.push(words);
+        return Uint8Array.of(1, 2);
+    };
+    byId("gateway-download").click();
+    await settle();
+    assert.deepEqual(read, [["/var/backups/enogate/hall-2026-12-01.tar.gz", { superuser: "require", binary: true }]]);
+    const [[name, response]] = made;
+    assert.deepEqual([name, new Uint8Array(await (await response).arrayBuffer())], ["hall-2026-12-01.tar.gz", Uint8Array.of(1, 2)]);
+    for (const [answer, why] of [[async () => null, "/var/backups/enogate/hall-2026-12-01.tar.gz is missing."],
+                                 [async () => { throw Error("why"); }, "why"]]) {
+        machine.readFile = answer;
+        byId("gateway-download").click();
+        await settle();
+        assert.deepEqual([made.length, complaints.at(-1)], [1, why]);
+    }
+    Object.assign(document, { createElement });
+    Object.assign(machine, { readFile });
+    page.gateway = "yard";
+    section.paint();
+    assert.equal(hasDownload(), false);
+    page.gateway = "hall";
 });
 
 test("a backup that fails is an error of the page, and can be tried again", async () => {

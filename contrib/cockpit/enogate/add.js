@@ -21,7 +21,7 @@ export const COLUMNS = new Map([
 
 /** The senders whose ID, kind or profile has this text. */
 export const matchingSenders = (unknown, text) => [...unknown].filter(([id, { rorg, eep }]) =>
-    words.hasText(text, id, words.kindText(rorg), words.profileWithKind(eep)));
+    words.matchesSearch(text, id, words.kindText(rorg), words.profileWithKind(eep)));
 
 export class AddSection {
     constructor(page) {

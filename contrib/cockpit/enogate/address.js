@@ -2,7 +2,7 @@
 
 /** The sections, and which parts each of them has. */
 const PARTS = new Map([
-    ["overview", /^$/], ["devices", /^(?:heard|misfit|silent|weak|actuators)?$/], ["device", /^[0-9A-F]{8}$/],
+    ["overview", /^$/], ["devices", /^(?:heard|misfit|silent|weak|battery|actuators)?$/], ["device", /^[0-9A-F]{8}$/],
     ["groups", /^$/], ["add", /^$/], ["packets", /^$/],
 ]);
 

@@ -1,6 +1,6 @@
 // Runs the commands of the page through Cockpit.
 
-import { cockpit } from "./cockpit.js";
+import { _, cockpit, format } from "./cockpit.js";
 import { recordedDevicesIn } from "./lines.js";
 import * as orders from "./orders.js";
 import * as places from "./places.js";
@@ -31,6 +31,9 @@ export async function serviceState(name) {
     const states = places.propertiesIn(await outputOf(places.serviceStateCommand(name)));
     return states.ActiveState ? states : null;
 }
+
+/** How many MB are free for the lines and the databases; null if this is not known. */
+export const freeSpace = async () => places.leastSpaceIn(await outputOf(places.SPACE_COMMAND));
 
 /** The gateway to open first: the one that was open last, else the first one that runs, else the first one. */
 export async function firstGateway(names, last) {
@@ -76,6 +79,10 @@ export const moduleBase = port => cockpit.spawn(["enogatectl", "base", port], RO
 /** Writes the settings of a new gateway, as root. "-" is the tag of a missing file: none is overwritten. */
 export const writeSettings = (name, port) =>
     cockpit.file(places.settingsFiles(name)[1], { superuser: "require" }).replace(`SERIAL=${port}\n`, "-");
+
+/** The bytes of a file, read as root. */
+export const readFile = path => cockpit.file(path, { superuser: "require", binary: true }).read()
+        .then(content => content ?? Promise.reject(Error(format(_("$0 is missing."), path))));
 
 /** Opens the service of a gateway in Cockpit, with its journal. */
 export const openService = name => cockpit.jump(`/system/services#/${encodeURIComponent(places.unitOf(name))}`);

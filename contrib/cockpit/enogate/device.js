@@ -28,10 +28,10 @@ export class DeviceSection {
     }
 
     paint() {
-        const { model, part } = this.page;
-        if (part !== this.id) {
+        const { model, part: shownId } = this.page;
+        if (shownId !== this.id) {
             this.leave();
-            this.id = part;
+            this.id = shownId;
         }
         // A device that has just been removed remains in the dialog.
         const device = model.devices.get(this.id);

@@ -24,7 +24,7 @@ export const COLUMNS = new Map([
 
 /** The devices whose ID, label or profile has this text. */
 export const matchingDevices = (devices, text) =>
-    [...devices].filter(([id, { label, eep }]) => words.hasText(text, id, label, words.profileWithKind(eep)));
+    [...devices].filter(([id, { label, eep }]) => words.matchesSearch(text, id, label, words.profileWithKind(eep)));
 
 /** How long ago a device was heard. */
 export const lastHeardText = (device, now) =>
@@ -43,28 +43,36 @@ export class DevicesSection {
         });
         this.states = [...document.querySelectorAll("#devices-states a")];
         const headings = document.querySelectorAll("#devices th[data-column]");
-        this.sorting = new Sorting(COLUMNS, byId("devices-sort"), headings, () => page.painter.paintNow());
+        const still = ["signal", "received"];
+        this.sorting = new Sorting(COLUMNS, byId("devices-sort"), headings, () => page.painter.paintNow(), still);
+    }
+
+    /** The devices are sorted again when the section is opened. */
+    leave() {
+        this.sorting.places.clear();
     }
 
     /** Shows the devices. Returns how many the search hides, if it hides all of them. */
     paint() {
         const { model, groups, part, query } = this.page;
+        const shownState = part || "all";
         for (const link of this.states) {
             const { state } = link.dataset;
-            link.setAttribute("aria-current", String(state === (part || "all")));
+            link.setAttribute("aria-current", String(state === shownState));
             setText(link.lastElementChild, String(groups[state].length));
         }
-        const found = this.sorting.sorted(matchingDevices(groups[part || "all"], query));
+        const found = this.sorting.sorted(matchingDevices(groups[shownState], query));
         this.rows.fill(this.grouping.checked ? withHeadings(found, groups.all) : found, id => model.devices.get(id));
         const isEmpty = this.rows.shown.length === 0;
         byId("devices-table").hidden = isEmpty;
         byId("devices-none").hidden = !isEmpty;
         byId("devices-none-add").hidden = model.devices.size > 0;
         const none = model.areDevicesKnown ? _("No device is learned yet") : _("The devices are not known yet");
-        const noMatch = part === "silent" && !groups.silent.length ? _("No device is silent") : _("No device matches");
+        const noMatch = shownState === "silent" && !groups.silent.length ? _("No device is silent")
+            : _("No device matches");
         setText(byId("devices-none-title"), model.devices.size ? noMatch : none);
         showText(byId("devices-note"), this.note(model));
-        return found.length ? 0 : groups[part || "all"].length;
+        return found.length ? 0 : groups[shownState].length;
     }
 
     note(model) {

@@ -51,6 +51,13 @@ export function acceptField(field, why) {
     return field.reportValidity();
 }
 
+/** Lets the browser save these bytes as a file with this name. */
+export function saveFile(name, content) {
+    const link = element("a", { download: name, href: URL.createObjectURL(new Blob([content])) });
+    link.click();
+    URL.revokeObjectURL(link.href);
+}
+
 // The pause between two repaints in ms.
 const REPAINT_PAUSE = 250;
 

@@ -94,13 +94,16 @@ export class EditDialog {
         this.enableButtons(this.page.canOrderNow);
     }
 
-    /** Shows the senders that may be the new device, the newest first. */
+    /** Shows the senders that may be the new device, the newest first: also those that were just learned. */
     paint() {
         if (!this.dialog.open || byId("edit-replacement").hidden)
             return;
-        const found = [...this.page.model.unknown].filter(([, sender]) => canHaveProfile(sender, this.eep));
-        this.senders.fill(found.slice(-MAX_SENDERS).reverse());
-        setText(byId("edit-no-sender"), found.length ? "" : _("No unknown device of this kind was heard yet."));
+        const { devices, unknown } = this.page.model;
+        const found = [...[...devices].filter(([id, { eep, label }]) => id !== this.id && eep === this.eep && !label),
+                       ...[...unknown].filter(([, sender]) => canHaveProfile(sender, this.eep))].reverse()
+                .sort(([, a], [, b]) => (b.received ?? 0) - (a.received ?? 0));
+        this.senders.fill(found.slice(0, MAX_SENDERS));
+        setText(byId("edit-no-sender"), found.length ? "" : _("No new device of this kind was heard yet."));
     }
 }
 

@@ -3,20 +3,37 @@
 import { orderStateOf, SILENT_HINT } from "./answers.js";
 import { addressOf } from "./address.js";
 import { _, format, N_, ngettext } from "./cockpit.js";
-import { lastHeardTime, wasHeard } from "./model.js";
+import { lastHeardTime, readingKey, wasHeard } from "./model.js";
 import { baseFault, gatewayFault } from "./places.js";
+import { TABLES } from "./tables.js";
 import * as words from "./words.js";
 
 // A signal gains a bar at each of these, in dBm. With one bar it is weak: telegrams get lost.
-const BAR_LIMITS = [-85, -75, -65];
+const BAR_LIMITS = [TABLES.weakSignal, -75, -65];
+// Less space than this on the disk is little, in MB.
+const LITTLE_SPACE = 100;
 // More devices with the same problem become one line.
 const MAX_NAMED_DEVICES = 3;
 
 /** How many of four bars a signal has. */
 export const signalBars = dbm => dbm === null ? 0 : 1 + BAR_LIMITS.filter(least => dbm >= least).length;
 
+/** After how many ms without a telegram a device is silent: these minutes; null has three usual intervals. */
+const silenceOf = ({ eep }, minutes) => minutes !== null ? minutes * 60000
+    : (words.PROFILES.get(eep)?.silence ?? Infinity) * 1000;
+
 /** Whether a device has sent nothing for this time, as far as the page can know. */
-export const isQuiet = (device, opened, now, minutes) => now - (lastHeardTime(device) ?? opened) > minutes * 60000;
+export const isQuiet = (device, opened, now, minutes) =>
+    now - (lastHeardTime(device) ?? opened) > silenceOf(device, minutes);
+
+/** The supply voltage that a device reported last, in volts; undefined if it has reported none. */
+function supplyVoltage({ readings }) {
+    const { num, den } = readings.get(readingKey({ name: TABLES.supplyVoltage }, null))?.reading ?? {};
+    return num === undefined ? undefined : num / den;
+}
+
+/** Whether so many MB on the disk are little; null is not known. */
+export const hasLittleSpace = space => space !== null && space < LITTLE_SPACE;
 
 /** The devices, each with its ID, by what is known of them. `sent` has the last order to each device. */
 export function devicesByState({ devices, opened }, sent, now, minutes) {
@@ -28,6 +45,7 @@ export function devicesByState({ devices, opened }, sent, now, minutes) {
         unheard: all.filter(([id, device]) => !wasHeard(device) && !isSilent.has(id)),
         heard: all.filter(([id, device]) => lastHeardTime(device) !== null && !isSilent.has(id)),
         weak: all.filter(([, { dbm }]) => signalBars(dbm) === 1),
+        battery: all.filter(([, device]) => supplyVoltage(device) < TABLES.lowVoltage),
         misfit: all.filter(([, { misfit }]) => misfit),
         actuators: all.filter(([, { eep }]) => words.PROFILES.get(eep)?.abilities),
         unanswered: all.filter(([id, device]) => sent.has(id) && orderStateOf(sent.get(id), device, now) === "silent"),
@@ -39,8 +57,9 @@ export function heardSentence({ all: { length: count }, heard, silent, unheard }
     if (!count)
         return areDevicesKnown ? _("No device is learned yet.") : _("The devices are not known yet.");
     const unknown = count - heard.length - silent.length - unheard.length;
-    const time = minutes < 60 ? `${words.decimalText(minutes)} min` : `${words.decimalText(minutes / 60)} h`;
-    const [ofAll, ofSome, withUnknown] = Number.isFinite(minutes)
+    const limit = minutes ?? Infinity;
+    const time = limit < 60 ? `${words.decimalText(limit)} min` : `${words.decimalText(limit / 60)} h`;
+    const [ofAll, ofSome, withUnknown] = Number.isFinite(limit)
         ? [ngettext("The device was heard in the last $2.", "All $1 devices were heard in the last $2.", count),
            _("$0 of $1 devices were heard in the last $2."),
            _("$0 of $1 devices were heard in the last $2; for $3 this is not known yet.")]
@@ -67,13 +86,17 @@ function deviceProblems(devices, part, detail, textOf, textOfMany) {
 }
 
 /** What is wrong with the gateway itself. */
-function gatewayProblems({ name, why, states, hasStick, settings, model }) {
+function gatewayProblems({ name, why, states, hasStick, settings, model, space }) {
     const found = [];
     if (why)
         found.push({ level: "bad", text: _("The lines cannot be read"), detail: why, action: N_("Journal") });
     const wrong = gatewayFault(name, states, hasStick, settings.get("SERIAL")) ?? baseFault(name, settings, model);
     if (wrong)
         found.push({ level: "bad", ...wrong });
+    if (hasLittleSpace(space)) {
+        found.push({ level: "warn", text: format(_("Only $0 MB are free on the disk"), space),
+                     detail: _("Delete files on this computer: on a full disk no device can be learned.") });
+    }
     if (model.isWindowOpen) {
         found.push({ level: "info", text: _("The learn window is open"), action: N_("Close"),
                      detail: _("Devices of your neighbours can be learned, too.") });
@@ -114,6 +137,9 @@ export function findProblems({ groups, now, ...facts }) {
                                  name => format(_("The last telegram of $0 does not fit its profile"), name), count =>
         ngettext("The last telegram of $0 device does not fit its profile",
                  "The last telegrams of $0 devices do not fit their profiles", count)),
+               ...deviceProblems(groups.battery, "battery", "", (name, device) =>
+                   format(_("$0 has a low battery: $1 V"), name, words.decimalText(supplyVoltage(device))), count =>
+                   ngettext("$0 device has a low battery", "$0 devices have a low battery", count)),
                ...deviceProblems(groups.silent, "silent", "", heard, count =>
                    ngettext("$0 device is silent", "$0 devices are silent", count)),
                ...deviceProblems(weak, "weak", "", (name, { dbm }) =>

@@ -11,7 +11,8 @@ import { button, byId, Painter, setText, showText } from "./dom.js";
 import { Feed } from "./feed.js";
 import { GroupsSection } from "./groups.js";
 import { devicesByState, isQuiet } from "./health.js";
-import { Model } from "./model.js";
+import { parseJson } from "./lines.js";
+import { lastHeardTime, Model } from "./model.js";
 import { orderCommand, reasonOf } from "./orders.js";
 import { OverviewSection } from "./overview.js";
 import { PacketsSection } from "./packets.js";
@@ -23,20 +24,35 @@ import * as words from "./words.js";
 // In ms: how long after a teach line the devices are asked for, and how often the state of the service is.
 const REFRESH_DELAY = 1000;
 const CHECK_INTERVAL = 2000;
+// How often the free space is looked at, in ms.
+const SPACE_INTERVAL = 60000;
 // For how long after its start, in ms, a gateway that does not answer is asked again. It may have no desk yet.
 const START_TIME = 60000;
 const NO_RIGHTS = _("You can look, but not change anything. Turn on administrative access in Cockpit, or ask an " +
     "administrator to add you to the group enogate.");
 const NO_LINES = _("You can see nothing, since the lines cannot be read. Turn on administrative access in Cockpit.");
 const FEED_TEXTS = { reading: _("reading"), live: _("live"), lost: _("lost") };
-// The browser stores after how many hours a device is silent, and the gateway, also that of each window.
+// The browser stores after how many hours a device is silent (empty: by its profile), and the gateway, also that of
+// each window.
 const [STORED_HOURS, STORED_GATEWAY] = ["enogate-silent-hours", "enogate-gateway"];
-const DEFAULT_SILENT_HOURS = "24";
+// Each window stores when the devices of its gateway were heard, for a reload: lines have no times.
+const STORED_TIMES = "enogate-times";
+// A reload takes less than this, in ms.
+const RELOAD_TIME = 30000;
 // The tab of a view that has none of its own.
 const TAB_OF_VIEW = new Map([["device", "devices"], ["groups", "devices"]]);
 
+/** After how many minutes a device is silent, by these hours: 0 is never, and null by its profile. */
+const minutesIn = hours => hours === "" ? null : 60 * Number(hours) || Infinity;
+
 /** Whether a click on a link opens it in this page, and not in another tab or window. */
 const isPlainClick = event => !event.ctrlKey && !event.metaKey && !event.shiftKey;
+
+/** When the devices of a gateway were heard before a reload, by their IDs; none if the page was not just reloaded. */
+function timesBeforeReload(name) {
+    const { gateway, left, times } = parseJson(sessionStorage.getItem(STORED_TIMES)) ?? {};
+    return new Map(gateway === name && Date.now() - left < RELOAD_TIME ? times : []);
+}
 
 /** Removes what only a section that is shown needs. */
 function leave(section) {
@@ -47,10 +63,10 @@ function leave(section) {
 class Page {
     constructor() {
         Object.assign(this, { gateway: null, feed: null, query: "", section: "overview", part: "" });
-        Object.assign(this, { gateways: [], searchTimer: null });
+        Object.assign(this, { gateways: [], searchTimer: null, space: null });
         this.rights = new Rights(() => this.rightsChanged());
-        byId("devices-quiet").value = localStorage.getItem(STORED_HOURS) ?? DEFAULT_SILENT_HOURS;
-        this.minutes = 60 * Number(byId("devices-quiet").value) || Infinity;
+        byId("devices-quiet").value = localStorage.getItem(STORED_HOURS) ?? "";
+        this.minutes = minutesIn(byId("devices-quiet").value);
         this.resetGateway();
         this.painter = new Painter(() => this.paint());
         this.sections = {
@@ -90,6 +106,7 @@ class Page {
         byId("hidden-clear").addEventListener("click", () => this.search(byId("search").value = ""));
         byId("devices-quiet").addEventListener("input", () => this.setHours(byId("devices-quiet").value));
         addEventListener("hashchange", () => this.openAddress(location.hash));
+        addEventListener("pagehide", () => this.storeTimes());
         // A click on a tab shows its section at once: the event of the new address comes later.
         for (const tab of document.querySelectorAll("#sections a"))
             tab.addEventListener("click", event => isPlainClick(event) && this.openAddress(tab.hash));
@@ -97,7 +114,15 @@ class Page {
         // Ages and the countdown change by themselves.
         setInterval(() => this.painter.requestPaint(), 1000);
         setInterval(() => this.checkGateway(), CHECK_INTERVAL);
+        setInterval(() => this.checkSpace(), SPACE_INTERVAL);
+        this.checkSpace();
         await this.findGateways();
+    }
+
+    /** Stores when each device was heard. */
+    storeTimes() {
+        const times = [...this.model.devices].map(([id, device]) => [id, lastHeardTime(device)]);
+        sessionStorage.setItem(STORED_TIMES, JSON.stringify({ gateway: this.gateway, left: Date.now(), times }));
     }
 
     /** Opens the section that an address names, if it is not open. */
@@ -130,10 +155,10 @@ class Page {
         this.painter.paintNow();
     }
 
-    /** Sets after how many hours a device is silent. */
+    /** Sets after how many hours a device is silent; empty: by its profile. */
     setHours(text) {
         localStorage.setItem(STORED_HOURS, text);
-        this.minutes = 60 * Number(text) || Infinity;
+        this.minutes = minutesIn(text);
         this.painter.paintNow();
     }
 
@@ -181,7 +206,7 @@ class Page {
             section.clear?.();
         }
         this.resetGateway();
-        this.gateway = name;
+        Object.assign(this, { gateway: name, model: new Model(Date.now(), timesBeforeReload(name)) });
         [sessionStorage, localStorage].forEach(store => store.setItem(STORED_GATEWAY, name));
         for (const tab of byId("gateways").children)
             tab.setAttribute("aria-selected", String(tab.dataset.gateway === name));
@@ -237,6 +262,14 @@ class Page {
             this.askForDevicesAndBase();
     }
 
+    /** Looks how much space is left for the files of all gateways. */
+    async checkSpace() {
+        if (document.hidden)
+            return;
+        this.space = await commands.freeSpace();
+        this.painter.requestPaint();
+    }
+
     /** Runs a command that gives orders, without becoming root if the user may write the desk. */
     runCommand(command) {
         return commands.runCommand(command, this.rights.hasDesk ? "user" : "root");
@@ -264,7 +297,7 @@ class Page {
         this.painter.paintNow();
     }
 
-    /** Starts or restarts the service. Returns why this failed; empty if it did not. @param {"start"|"restart"} verb */
+    /** Starts, restarts or stops the service. Returns why this failed; empty if it did not. */
     async controlService(verb, pressed) {
         pressed.disabled = true;
         const why = await reasonOf(commands.controlService(this.gateway, verb));

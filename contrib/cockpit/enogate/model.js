@@ -49,7 +49,7 @@ function channelOf(readings) {
 }
 
 /** Under which key a reading replaces an earlier one. */
-function readingKey({ name, unit }, channel) {
+export function readingKey({ name, unit }, channel) {
     const base = name.startsWith("ILL") ? "ILL" : name;
     return [base, MULTI_UNIT_READINGS.has(name) ? unit : "", channel ?? ""].join(" ");
 }
@@ -88,13 +88,17 @@ export const lastHeardTime = ({ received, recorded }) => received ?? recorded;
 export const wasHeard = device => lastHeardTime(device) !== null || device.readings.size > 0 || device.hasSent;
 
 export class Model {
-    /** @param {number} opened - when the page was opened, in ms */
-    constructor(opened) {
+    /**
+     * @param {number} opened - when the page was opened, in ms
+     * @param {Map<string, ?number>} times - when devices were heard before, by their IDs
+     */
+    constructor(opened, times = new Map()) {
         /** @type {Map<string, Device>} */
         this.devices = new Map();
         /** @type {Map<string, Sender>} the sender of the last packet is the last one */
         this.unknown = new Map();
-        Object.assign(this, { opened, devicesLeftOut: 0, unknownLeftOut: 0, packets: [], taught: [], lineCount: 0 });
+        Object.assign(this, { opened, times, devicesLeftOut: 0, unknownLeftOut: 0 });
+        Object.assign(this, { packets: [], taught: [], lineCount: 0 });
         Object.assign(this, { counters: null, mode: null, base: null, baseTime: null, listing: null });
         Object.assign(this, { isListed: false, isRecorded: false, hasPackets: false });
     }
@@ -129,8 +133,8 @@ export class Model {
         }
         if (!device || device.eep !== eep) {
             const before = device ? [] : this.packets.filter(({ line }) => line.id === id);
-            device = { label: "", dbm: null, received: null, recorded: null, hasSent: false, ...device, eep,
-                       readings: new Map(), misfit: null };
+            device = { label: "", dbm: null, received: null, recorded: this.times.get(id) ?? null, hasSent: false,
+                       ...device, eep, readings: new Map(), misfit: null };
             this.devices.set(id, device);
             before.forEach(({ line, time }) => takeTelegram(device, line, time));
         }
@@ -222,7 +226,7 @@ export class Model {
             const device = this.devices.get(id) ?? (this.isListed ? undefined : this.device(id, eep));
             if (device?.eep !== eep)
                 continue;
-            device.recorded = seen;
+            device.recorded = seen ?? device.recorded;
             if (!this.isListed)
                 device.label = label;
             if (!device.readings.size) {

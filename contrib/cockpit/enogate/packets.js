@@ -12,7 +12,7 @@ const MAX_SHOWN_ROWS = 100;
 export function matchingPackets(packets, devices, text) {
     return packets.filter(({ line: { id = "" } }) => {
         const { label = "", eep = "" } = devices.get(id) ?? {};
-        return words.hasText(text, id, label, words.profileWithKind(eep));
+        return words.matchesSearch(text, id, label, words.profileWithKind(eep));
     });
 }
 

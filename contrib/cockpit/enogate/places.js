@@ -55,6 +55,15 @@ export function baseFault(name, settings, { base, baseTime }) {
              detail: format(_("Correct or remove BASE in $0, and restart the gateway."), settingsFiles(name)[1]) };
 }
 
+/** The command that prints how many MB are free for the lines and for the databases. */
+export const SPACE_COMMAND = ["df", "--block-size=1M", "--output=avail", "/var/log/enogate", "/var/lib/enogate"];
+
+/** The smallest number in its output; null if there is none. */
+export function leastSpaceIn(output) {
+    const numbers = output.match(/^ *\d+$/gm);
+    return numbers && Math.min(...numbers.map(Number));
+}
+
 /** The command that asks systemd for the state of a service. */
 export const serviceStateCommand = name =>
     ["systemctl", "show", "--property=ActiveState,SubState,InvocationID", unitOf(name)];

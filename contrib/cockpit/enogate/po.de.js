@@ -6,11 +6,15 @@ cockpit.locale({
     "$0 device did not answer an order": [
         null, "$0 Gerät hat auf einen Befehl nicht geantwortet", "$0 Geräte haben auf einen Befehl nicht geantwortet",
     ],
+    "$0 device has a low battery": [
+        null, "$0 Gerät hat eine schwache Batterie", "$0 Geräte haben eine schwache Batterie",
+    ],
     "$0 device has a weak signal": [null, "$0 Gerät hat schwachen Empfang", "$0 Geräte haben schwachen Empfang"],
     "$0 device is silent": [null, "$0 Gerät ist stumm", "$0 Geräte sind stumm"],
     "$0 device was never heard.": [null, "$0 Gerät wurde noch nie empfangen.", "$0 Geräte wurden noch nie empfangen."],
     "$0 did not answer an order": [null, "$0 hat auf einen Befehl nicht geantwortet"],
     "$0 entry is hidden by the search.": [null, "Die Suche verbirgt $0 Eintrag.", "Die Suche verbirgt $0 Einträge."],
+    "$0 has a low battery: $1 V": [null, "$0 hat eine schwache Batterie: $1 V"],
     "$0 has a weak signal: $1": [null, "$0 hat schwachen Empfang: $1"],
     "$0 has not been heard": [null, "$0 wurde noch nicht empfangen"],
     "$0 has this label, too. Orders then need the ID in place of the label.": [
@@ -25,6 +29,7 @@ cockpit.locale({
     "$0 is missing, or you may not read it: only administrators and the group enogate may.": [
         null, "$0 fehlt, oder Sie dürfen es nicht lesen: Das dürfen nur Administratoren und die Gruppe enogate.",
     ],
+    "$0 is missing.": [null, "$0 fehlt."],
     "$0 of $1 devices were heard in the last $2.": [null, "$0 von $1 Geräten wurden innerhalb von $2 empfangen."],
     "$0 of $1 devices were heard in the last $2; for $3 this is not known yet.": [
         null, "$0 von $1 Geräten wurden innerhalb von $2 empfangen; von $3 ist es noch nicht bekannt.",
@@ -90,6 +95,9 @@ cockpit.locale({
     "Correct or remove BASE in $0, and restart the gateway.": [
         null, "Berichtigen oder entfernen Sie BASE in $0, und starten Sie das Gateway neu.",
     ],
+    "Delete files on this computer: on a full disk no device can be learned.": [
+        null, "Löschen Sie Dateien auf diesem Computer: Ist der Datenträger voll, lässt sich kein Gerät einlernen.",
+    ],
     "Device": [null, "Gerät"],
     "Devices": [null, "Geräte"],
     "Devices and labels are those of the last list.": [null, "Geräte und Bezeichnungen sind die der letzten Liste."],
@@ -102,10 +110,14 @@ cockpit.locale({
         "Hat es Strom? Drücken Sie noch einmal. Hat es noch nie einen Befehl befolgt, muss es dieses Gateway einlernen: Öffnen Sie das Lernfenster in „Gerät hinzufügen“, und drücken Sie die Lerntaste des Aktors.",
     ],
     "Down": [null, "Ab"],
+    "Download": [null, "Herunterladen"],
     "Edit …": [null, "Bearbeiten …"],
     "Electricity meter": [null, "Stromzähler"],
     "Electronic switch, 1 channel": [null, "Schaltaktor, 1 Kanal"],
     "Electronic switch, 2 channels": [null, "Schaltaktor, 2 Kanäle"],
+    "Empty: three usual intervals of the profile. 0: never.": [
+        null, "Leer: drei übliche Abstände des Profils. 0: nie.",
+    ],
     "EnOcean gateway": [null, "EnOcean-Gateway"],
     "Energy": [null, "Energie"],
     "Energy in Wh": [null, "Energie in Wh"],
@@ -114,6 +126,7 @@ cockpit.locale({
     "Error level": [null, "Fehlerstufe"],
     "Everything is all right": [null, "Alles in Ordnung"],
     "Failed": [null, "Fehlgeschlagen"],
+    "Free disk space": [null, "Freier Speicherplatz"],
     "Gas": [null, "Gas"],
     "Gas flow": [null, "Gasdurchfluss"],
     "Gas meter": [null, "Gaszähler"],
@@ -182,13 +195,13 @@ cockpit.locale({
         "Keine freie serielle Schnittstelle gefunden. Stecken Sie den Stick ein, und öffnen Sie diesen Dialog noch einmal.",
     ],
     "No gateway is set up on this machine": [null, "Auf diesem Rechner ist kein Gateway eingerichtet"],
+    "No new device of this kind was heard yet.": [null, "Noch wurde kein neues Gerät dieser Art empfangen."],
     "No packet line has arrived": [null, "Es ist keine Paketzeile eingetroffen"],
     "No packet lines have arrived. If none arrives when you press a button of a device, set EXPLAIN=--explain for this gateway, and restart it.": [
         null,
         "Es sind keine Paketzeilen eingetroffen. Falls auch keine eintrifft, wenn Sie die Taste eines Geräts drücken, setzen Sie EXPLAIN=--explain für dieses Gateway, und starten Sie es neu.",
     ],
     "No stick at $0": [null, "Kein Stick an $0"],
-    "No unknown device of this kind was heard yet.": [null, "Noch wurde kein unbekanntes Gerät dieser Art empfangen."],
     "Nothing was heard of this device. Press its button.": [
         null, "Von diesem Gerät wurde nichts empfangen. Drücken Sie seine Taste.",
     ],
@@ -197,6 +210,7 @@ cockpit.locale({
     "Off": [null, "Aus"],
     "On": [null, "Ein"],
     "One thing needs attention": [null, "Ein Punkt braucht Aufmerksamkeit", "$0 Punkte brauchen Aufmerksamkeit"],
+    "Only $0 MB are free on the disk": [null, "Auf dem Datenträger sind nur noch $0 MB frei"],
     "Only $0 devices are shown.": [null, "Nur $0 Geräte werden gezeigt."],
     "Only the devices in the last lines are shown: no list of all devices has been read.": [
         null, "Nur die Geräte der letzten Zeilen werden gezeigt: Es wurde keine Liste aller Geräte gelesen.",
@@ -249,8 +263,8 @@ cockpit.locale({
     "Replace …": [null, "Ersetzen …"],
     "Responses of the module": [null, "Antworten des Funkmoduls"],
     "Restart": [null, "Neustarten"],
-    "Restart, Back up and Set up need administrative access.": [
-        null, "Neustarten, Sichern und Einrichten brauchen administrativen Zugriff.",
+    "Restart, Stop, Back up and Set up need administrative access.": [
+        null, "Neustarten, Stoppen, Sichern und Einrichten brauchen administrativen Zugriff.",
     ],
     "Restarted at $0.": [null, "Neu gestartet um $0."],
     "Results": [null, "Ergebnisse"],
@@ -280,9 +294,9 @@ cockpit.locale({
     "Silent after": [null, "Stumm nach"],
     "Sort by": [null, "Sortieren nach"],
     "Start": [null, "Starten"],
-    "Start, stop, journal": [null, "Start, Stopp, Journal"],
     "Stick": [null, "Stick"],
     "Stop": [null, "Stoppen"],
+    "Stopped at $0.": [null, "Gestoppt um $0."],
     "Supply voltage": [null, "Versorgungsspannung"],
     "Tariff": [null, "Tarif"],
     "Teach": [null, "Anlernen"],
@@ -296,6 +310,9 @@ cockpit.locale({
     "The ID is printed on most devices.": [null, "Die ID steht auf den meisten Geräten."],
     "The command enogatectl is not installed: install the package enogate.": [
         null, "Der Befehl enogatectl fehlt: Installieren Sie das Paket enogate.",
+    ],
+    "The data sheet of the device names its profile, such as A5-02-05.": [
+        null, "Das Datenblatt des Geräts nennt sein Profil, etwa A5-02-05.",
     ],
     "The device and its label are deleted.": [null, "Das Gerät und seine Bezeichnung werden gelöscht."],
     "The device was heard in the last $2.": [
@@ -351,6 +368,7 @@ cockpit.locale({
         null, "Verwenden Sie Buchstaben, Ziffern, - und _, aber nicht - oder mqtt am Anfang.",
     ],
     "Use “$0”": [null, "„$0“ verwenden"],
+    "Version": [null, "Version"],
     "Water": [null, "Wasser"],
     "Water flow": [null, "Wasserdurchfluss"],
     "Water meter": [null, "Wasserzähler"],
@@ -389,6 +407,7 @@ cockpit.locale({
     "asks to be learned, but the learn window is open for another kind": [
         null, "will eingelernt werden, aber das Lernfenster ist für eine andere Art offen",
     ],
+    "auto": [null, "auto"],
     "ch $0": [null, "Kan. $0"],
     "channel $0: $1": [null, "Kanal $0: $1"],
     "closed": [null, "geschlossen"],

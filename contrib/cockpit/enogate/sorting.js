@@ -8,9 +8,10 @@ export class Sorting {
      * @param {HTMLSelectElement} field - with the columns as its values
      * @param {Iterable<Element>} headings - each with the name of its column, and a button
      * @param {function(): void} onChange
+     * @param {string[]} still - columns whose values change often: entries remain where they are
      */
-    constructor(columns, field, headings, onChange) {
-        Object.assign(this, { columns, field, headings: [...headings], onChange, column: null });
+    constructor(columns, field, headings, onChange, still = []) {
+        Object.assign(this, { columns, field, headings: [...headings], onChange, still, column: null });
         field.addEventListener("change", () => this.sortBy(field.value));
         for (const heading of this.headings)
             heading.firstElementChild.addEventListener("click", () => this.sortBy(heading.dataset.column));
@@ -24,7 +25,7 @@ export class Sorting {
     }
 
     setColumn(column, isReverse) {
-        Object.assign(this, { column, isReverse });
+        Object.assign(this, { column, isReverse, places: new Map() });
         this.field.value = column;
         for (const heading of this.headings) {
             const direction = isReverse ? "descending" : "ascending";
@@ -34,7 +35,13 @@ export class Sorting {
 
     /** These entries in this order. The keys decide between items that are equal. */
     sorted(entries) {
-        const [order, sign] = [this.columns.get(this.column), this.isReverse ? -1 : 1];
-        return entries.sort((a, b) => sign * order(a, b) || compareTexts(a[0], b[0]));
+        const { columns, column, isReverse, places } = this;
+        const [order, sign] = [columns.get(column), isReverse ? -1 : 1];
+        const hasSame = entries.length === places.size && entries.every(([key]) => places.has(key));
+        const sorted = entries.sort((a, b) => hasSame ? places.get(a[0]) - places.get(b[0])
+            : sign * order(a, b) || compareTexts(a[0], b[0]));
+        if (this.still.includes(column))
+            this.places = new Map(sorted.map(([key], place) => [key, place]));
+        return sorted;
     }
 }

@@ -30,7 +30,7 @@ export function profileOption(eep) {
 }
 
 /** Whether one of these texts contains the text that is searched for, or the spelling of it that a label can have. */
-export const hasText = (wanted, ...texts) => [wanted, asciiSpelling(wanted) || wanted]
+export const matchesSearch = (wanted, ...texts) => [wanted, asciiSpelling(wanted) || wanted]
         .some(text => texts.join(" ").toLowerCase().includes(text.toLowerCase()));
 
 /** The label of a device for people. */
