@@ -68,8 +68,8 @@ class Tail:
         self.file.seek(0, os.SEEK_END)
         self.buffer = b""
 
-    def has_appended(self, text):
-        """Whether this was appended after the place at which a text was found last."""
+    def takes_through(self, text):
+        """Whether this was appended after the place at which a text was found last. Then it ends at this place."""
         bytes_before, match, bytes_after = (self.buffer + self.file.read()).partition(text)
         # a part of the text may have come
         self.buffer = bytes_after if match else bytes_before[-len(text):]
@@ -78,7 +78,7 @@ class Tail:
     def wait_for(self, text):
         """Waits until this is appended, and returns the time."""
         deadline = time.monotonic() + TIMEOUT
-        while not self.has_appended(text):
+        while not self.takes_through(text):
             if time.monotonic() > deadline:
                 sys.exit(f"{self.file.name}: no {text!r} within {TIMEOUT:.0f} s")
             time.sleep(LOOK_PAUSE)

@@ -8,10 +8,12 @@ import re
 import tarfile
 from collections.abc import Iterable
 from datetime import date
+from typing import IO
 
 from enogate_lines.contents import Listed
+from enogate_tools import files
 from enogate_tools.files import Unsafe
-from enogate_tools.gateways import SETTINGS_FOLDER
+from enogate_tools.gateways import settings_paths
 
 from .sheet import devices_as_csv
 
@@ -26,7 +28,7 @@ def write_backup(folder: str, name: str, devices: Iterable[Listed], now: float) 
     file = f"{name}-{today}.tar.gz"
     shape = re.compile(name + r"-([0-9]{4}-[01][0-9]-[0-3][0-9])\.tar\.gz(?:\.[0-9a-f]{16})?")
     contents = {"devices.csv": devices_as_csv(devices).encode()}
-    for path in (f"{SETTINGS_FOLDER}/enogate{end}" for end in ("", f"-{name}", "-mqtt", f"-mqtt-{name}")):
+    for path in settings_paths(name):
         # Only root may write in this directory, so a link in it is followed.
         with contextlib.suppress(FileNotFoundError), open(path, "rb") as settings:
             contents[path.lstrip("/")] = settings.read()
@@ -49,22 +51,12 @@ def write_backup(folder: str, name: str, devices: Iterable[Listed], now: float) 
 
 
 def replace_file(directory: int, name: str, contents: dict[str, bytes], now: float, mode: int = MODE) -> None:
-    """Puts an archive with these contents into an open directory. After a power failure, the earlier one or this one is
-    there, and perhaps the temporary file."""
-    temporary = f"{name}.{os.urandom(8).hex()}"
-    file = os.open(temporary, os.O_WRONLY | os.O_CREAT | os.O_EXCL, mode, dir_fd=directory)
-    try:
-        with os.fdopen(file, "wb") as stream:
-            os.fchmod(file, mode)
-            with tarfile.open(fileobj=stream, mode="w:gz") as archive:
-                for path, content in contents.items():
-                    member = tarfile.TarInfo(path)
-                    member.size, member.mtime = len(content), int(now)
-                    archive.addfile(member, io.BytesIO(content))
-            stream.flush()
-            os.fsync(file)
-        os.rename(temporary, name, src_dir_fd=directory, dst_dir_fd=directory)
-    except BaseException:
-        os.unlink(temporary, dir_fd=directory)
-        raise
-    os.fsync(directory)
+    """Puts an archive with these contents into an open directory."""
+    def write_archive(stream: IO[bytes]) -> None:
+        with tarfile.open(fileobj=stream, mode="w:gz") as archive:
+            for path, content in contents.items():
+                member = tarfile.TarInfo(path)
+                member.size, member.mtime = len(content), int(now)
+                archive.addfile(member, io.BytesIO(content))
+
+    files.replace_file(directory, name, mode, write_archive)

@@ -80,6 +80,11 @@ class Response(NamedTuple):
     data: str
 
 
+class UnknownSender(NamedTuple):
+    """A packet whose sender is not learned."""
+    device: str
+
+
 class OkOrError(NamedTuple):
     """An order was carried out, or refused; a packet that failed gives the same error."""
 
@@ -93,7 +98,8 @@ class Strange(NamedTuple):
     complaint: str
 
 
-Content = Telegram | Learned | Deleted | Listed | EndOfList | Status | Response | OkOrError | Other | Strange
+Content = (Telegram | Learned | Deleted | Listed | EndOfList | Status | Response | UnknownSender | OkOrError | Other
+           | Strange)
 COUNTERS = ("ignored", "readings", "refused", "responses", "teach")
 
 
@@ -140,6 +146,8 @@ def content_by_type(kind: str, members: dict[str, object]) -> Content:
         case "response", _:
             return Response(checked_number(members["code"], 0, MAX_BYTE),
                             checked_text(members["data"], "(?:[0-9A-F]{2})*"))
+        case "packet", _ if members.get("why") == "unknown_sender":
+            return UnknownSender(device_of(members))
         case "ok" | "error", _:
             return OkOrError()
     return Other()

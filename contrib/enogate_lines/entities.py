@@ -21,6 +21,8 @@ GREATEST_CHANNEL, ALL_CHANNELS = {"switch": 29, "light": 29, "cover": 0}, 30
 AUTO, MISSED_INTERVALS = 0, 3
 # a number of an entity, as it is written in a topic
 CHANNEL_NUMBER = re.compile("0|[1-9][0-9]?")
+# a number, as it is published (decimals)
+NUMBER_PATTERN = r"-?[0-9]{1,20}(\.[0-9]{1,99})?"
 
 
 class WrongTable(ValueError):
@@ -77,6 +79,14 @@ class EntityRow:
     def words(self, key: str) -> list[str]:
         return self.more[key].split("|") if key in self.more else []
 
+    def number_of(self, text: str) -> float | None:
+        """A reading of this row as a number; None if it is not one. A word is 0 if it means off, and 1 if it means on;
+        options are counted from 0."""
+        if re.fullmatch(NUMBER_PATTERN, text):
+            return float(text)
+        words = self.words("options") or [*self.words("off"), *self.words("on")]
+        return float(words.index(text)) if text in words else None
+
     def entity_numbers(self, subtopics: Iterable[str]) -> list[int | None]:
         """The numbers of its entities, for a device with readings on these subtopics."""
         if not self.by:
@@ -88,7 +98,7 @@ class EntityRow:
         return [number for number in all_numbers if number <= GREATEST_CHANNEL.get(self.entity, number)]
 
 
-def entity_row_of(line: str) -> EntityRow:
+def parsed_entity_row(line: str) -> EntityRow:
     """The row of a line."""
     try:
         words = ["" if word == "-" else word for word in shlex.split(line)]
@@ -109,7 +119,7 @@ class Table:
     """The rows of the table."""
 
     def __init__(self, path: str = "entities"):
-        self.rows = [entity_row_of(line) for line in share.table_lines(path)]
+        self.rows = [parsed_entity_row(line) for line in share.table_lines(path)]
         self.rows_by_profile: dict[str, dict[tuple[str, str], EntityRow]] = {}
 
     def rows_of_profile(self, eep: str) -> dict[tuple[str, str], EntityRow]:
@@ -143,6 +153,14 @@ class Table:
         if separator:
             return name in {row.topic for row in shown_rows if row.by} and bool(CHANNEL_NUMBER.fullmatch(number))
         return name in {"dbm", *(row.reading for row in rows), *(row.topic for row in shown_rows if not row.by)}
+
+    def rows_of_subtopic(self, subtopic: str) -> list[EntityRow]:
+        """The rows of all profiles with an entity on this subtopic of a device. They have the same unit and the same
+        words. Events are left out: they are no states."""
+        name, separator, number = subtopic.partition("/")
+        rows = [row for row in self.rows if row.topic == name and row.entity not in ("", "event")]
+        is_possible = not separator or CHANNEL_NUMBER.fullmatch(number)
+        return [row for row in rows if is_possible and bool(row.by) == bool(separator)]
 
     def readings_by_subtopic(self, telegram: Telegram) -> dict[str, str]:
         """The readings of a telegram, by their subtopics."""

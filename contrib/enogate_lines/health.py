@@ -7,7 +7,7 @@ from typing import NamedTuple
 
 from .entities import AUTO, Table
 
-# A signal below this is weak, in dBm: telegrams get lost. The page has the same limit.
+# A signal below this is weak, in dBm: telegrams get lost.
 WEAK_SIGNAL = -85
 # The reading with the voltage of a battery or an energy store, and the limit below which that is low, in volts. The
 # profiles define no limit: a lithium cell of 3 V is nearly empty then, and radio modules stop at about 2.1 V.

@@ -21,6 +21,7 @@ from enogate_tools.check import MAX_SQLITE_STEPS, MEMORY_FOLDER, Check, copy_if_
 from enogate_tools.files import open_file
 from enogate_tools.gateways import DATABASE_FOLDER, Paths, paths_of
 from enogate_tools.port import is_base
+from enogate_tools.space import free_bytes
 from enogate_tools.system import System
 
 
@@ -142,12 +143,3 @@ def saved_readings(path: str) -> dict[str, dict[str, str]] | None:
                 return last_readings(connection)
         except (OSError, sqlite3.Error, ForeignFile):
             return None
-
-
-def free_bytes(folder: str) -> int | None:
-    """How many bytes are free in the file system of this directory, or of the one in which it will be."""
-    for path in (folder, os.path.dirname(folder)):
-        with contextlib.suppress(OSError):
-            file_system = os.statvfs(path)
-            return file_system.f_bavail * file_system.f_frsize
-    return None

@@ -4,6 +4,7 @@ from __future__ import annotations
 import json
 import logging
 import math
+import os
 import re
 from collections.abc import Callable, Iterable, Iterator
 
@@ -11,6 +12,7 @@ from enogate_lines.contents import BadLine, Content, Strange, content_of
 from enogate_lines.follow import Follower, Position
 from enogate_lines.inotify import LONGEST_WAIT, POLL_PAUSE
 from enogate_tools.desk import opens_window
+from enogate_tools.gateways import DATABASE_FOLDER
 
 from . import discovery
 from .connection import ECHO_WITHIN, Broker, Connection, ConnectionLost, ReceivedMessage
@@ -66,7 +68,8 @@ class Bridge:
         self.desk, self.requests, self.store, self.clock, self.time_of_day = desk, requests, store, clock, wall
         self.wait = wait
         self.outbox, self.backlog = Outbox(), Backlog()
-        self.health = HealthReport(devices, requests, clock, wall)
+        self.health = HealthReport(devices, requests, clock, wall,
+                                   [os.path.dirname(follower.path), DATABASE_FOLDER])
         self.rate_limited_log = RateLimitedLog(clock)
         self.connection: Connection | None = None
         # what the broker retains comes on a connection of its own: if it is too much for the broker, it drops some of
@@ -109,6 +112,8 @@ class Bridge:
             self.connection.end(END_WITHIN)
             self.note_acknowledged(self.connection)
         self.save()
+        # a second signal must not leave the log there: enogatectl takes a file with a log for that of a running bridge
+        self.store.close()
 
     def read_earlier_lines(self) -> None:
         """Reads what the gateway has written before. A list among these lines is not the answer to a request. The lines
@@ -235,7 +240,7 @@ class Bridge:
 
     def part_of_device(self, device: str) -> Part:
         """What the broker may retain about a device: its readings, and the discovery messages that it should have."""
-        return Part(device, [*self.topics.device_filters(device), *self.devices.shown_configs[device]])
+        return Part(device, [*self.topics.device_filters(device), *self.devices.shown_configs.get(device, ())])
 
     def parts_for_unknown_devices(self) -> list[Part]:
         """Without a state file it is unknown which devices were published before: the broker is asked for all, in parts
@@ -243,7 +248,8 @@ class Bridge:
         filters_of_parts = [[f"{self.topics.root}/+/+"], [f"{self.topics.root}/+/+/+"]]
         if self.topics.discovery:
             filters_of_parts += [[self.topics.config(component, "+")] for component in sorted(discovery.COMPONENTS)]
-        return [Part(UNKNOWN_PART, filters, is_large=True, expected_topics=self.wanted_messages())
+        expected_topics = self.wanted_messages()
+        return [Part(UNKNOWN_PART, filters, is_large=True, expected_topics=expected_topics)
                 for filters in filters_of_parts]
 
     def wanted_messages(self) -> dict[str, str]:
@@ -271,15 +277,15 @@ class Bridge:
             # the topics of a device that was not shown before are not in this part, and were published meanwhile
             self.publish([Message(topic, text, True) for topic, text in expected_texts.items()
                           if retained_texts.get(topic) != text and part.has_topic(topic)])
-        strays = (topic for topic in retained_texts
-                  if topic not in expected_texts and self.is_stray(topic) and not self.devices.is_shown_on(topic))
+        strays = (topic for topic in retained_texts if topic not in expected_texts and self.is_stray(topic, part))
         self.publish(self.devices.delete_retained(strays))
 
-    def is_stray(self, topic: str) -> bool:
-        """Whether an unwanted topic is one that this bridge publishes: below a device, or a discovery message."""
+    def is_stray(self, topic: str, part: Part) -> bool:
+        """Whether an unwanted topic is one that this bridge publishes: below a device, or a discovery message. A part
+        for unknown devices expects all topics on which a device is shown."""
         if topic.startswith(self.topics.root + "/"):
             return re.match(f"{DEVICE_PATTERN}/", topic.removeprefix(self.topics.root + "/")) is not None
-        return True
+        return part.name == UNKNOWN_PART or not self.devices.is_shown_on(topic)
 
     def publish(self, messages: Iterable[Message]) -> None:
         """Publishes these if there is a connection, as soon as there is room for them. Otherwise, retained messages are
@@ -316,8 +322,7 @@ class Bridge:
 
     def handle_lines(self, are_kept: bool, is_late: bool = False, is_earlier: bool = False) -> None:
         """Handles the lines that have arrived. When they are late, the time of their arrival is not known."""
-        lists_before, known_before = self.devices.list_count, set(self.devices.known_devices)
-        now = self.plausible_time()
+        lists_before, now = self.devices.list_count, self.plausible_time()
         for line, position, content in decoded_lines(self.follower.read(), self.devices, self.rate_limited_log.warning):
             if are_kept:
                 self.outbox.add(line, position, self.clock(), now)
@@ -325,10 +330,15 @@ class Bridge:
             if not is_earlier:
                 self.requests.handle_line(content)
                 self.health.handle_line(content)
+        self.note_devices(lists_before)
+
+    def note_devices(self, lists_before: int) -> None:
+        """Notes lists that have ended, and compares what the broker retains about new devices."""
         if self.devices.list_count > lists_before:
             self.requests.list_request.note_answer()
+        new_devices, self.devices.new_devices = self.devices.new_devices, set()
         if self.reconciler:
-            self.reconciler.add(map(self.part_of_device, sorted(self.devices.known_devices.keys() - known_before)))
+            self.reconciler.add(map(self.part_of_device, sorted(new_devices)))
             if self.devices.may_adopt and self.devices.list_count and not self.is_unknown_asked:
                 self.is_unknown_asked = True
                 self.reconciler.add(self.parts_for_unknown_devices())
@@ -401,6 +411,15 @@ class Bridge:
         """Publishes what is known about the gateway itself, if it has changed."""
         if self.gateway_reports is None:
             return
+        changed_reports = {topic: text for topic, text in self.reports_besides(self.gateway_reports).items()
+                           if self.gateway_reports.get(topic) != text}
+        if self.topics.counters in changed_reports:
+            self.counters_sent_at = self.clock()
+        self.publish([Message(topic, text, True) for topic, text in changed_reports.items()])
+        self.gateway_reports |= changed_reports
+
+    def reports_besides(self, published_reports: dict[str, str]) -> dict[str, str]:
+        """What is known about the gateway itself, by topic. Of what is published already, some is left out."""
         reports, gateway, module = {}, self.requests.gateway_probe.is_online, self.requests.module_probe.is_online
         if gateway is not None:
             reports[self.topics.gateway] = "online" if gateway else "offline"
@@ -408,16 +427,11 @@ class Bridge:
             reports[self.topics.module] = "online" if gateway and module else "offline"
         if self.requests.status:
             reports[self.topics.learn] = "OFF" if self.requests.status.mode == "closed" else "ON"
-            if (self.topics.counters not in self.gateway_reports
-                or self.clock() >= self.counters_sent_at + COUNTERS_EVERY):
+            if self.topics.counters not in published_reports or self.clock() >= self.counters_sent_at + COUNTERS_EVERY:
                 reports[self.topics.counters] = json.dumps(self.requests.status.counters, separators=(",", ":"))
-        if health := self.health.take_due_text(self.topics.health in self.gateway_reports):
+        if health := self.health.take_due_text(self.topics.health in published_reports):
             reports[self.topics.health] = health
-        changed_reports = {topic: text for topic, text in reports.items() if self.gateway_reports.get(topic) != text}
-        if self.topics.counters in changed_reports:
-            self.counters_sent_at = self.clock()
-        self.publish([Message(topic, text, True) for topic, text in changed_reports.items()])
-        self.gateway_reports |= changed_reports
+        return reports
 
     def note_acknowledged(self, connection: Connection) -> None:
         """Notes which lines and deletions the broker has acknowledged."""

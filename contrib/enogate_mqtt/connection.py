@@ -50,10 +50,11 @@ class WrongProtocol(ConnectionLost):
 
 @dataclass(frozen=True)
 class ReceivedMessage:
-    """A message that was received."""
+    """A message that was received, with its user properties."""
     topic: str
     payload: bytes
     retained: bool
+    properties: tuple[tuple[str, str], ...] = ()
 
 
 class Connection:
@@ -62,10 +63,10 @@ class Connection:
     A reader subscribes to nothing by itself, and publishes nothing: it gets what the broker retains."""
 
     def __init__(self, paho: ModuleType, login: Login, topics: Topics, version: int, clock: Callable[[], float],
-                 is_reader: bool = False):
+                 is_reader: bool = False, reader_suffix: str = ".reader"):
         self.paho, self.topics, self.clock, self.is_five = paho, topics, clock, version == 5
         self.is_reader = is_reader
-        self.name = f"enogate-{topics.name}" + (".reader" if is_reader else "")
+        self.name = f"enogate-{topics.name}" + (reader_suffix if is_reader else "")
         self.is_open, self.refusal, self.missing_right = False, "", ""
         self.is_unsupported = self.is_taken_over = False
         # why a message could not be sent, and the last exception of a callback
@@ -137,8 +138,8 @@ class Connection:
             self.is_open = True
             return
         if code_number(code) == 0:
-            filters = [*self.topics.command_filters, *self.topics.watched_topics]
-            self.orders_request = send_or_lose(client.subscribe, [(topic_filter, 1) for topic_filter in filters])[1]
+            filters = [(topic_filter, 1) for topic_filter in self.topics.subscriptions]
+            self.orders_request = send_or_lose(client.subscribe, filters)[1]
             return
         self.is_unsupported = self.is_five and code_number(code) in (1, 132)
         text = self.paho.connack_string(code) if isinstance(code, int) else str(code)
@@ -165,7 +166,8 @@ class Connection:
             topic = message.topic
         except UnicodeDecodeError:
             return
-        self.received_messages.append(ReceivedMessage(topic, message.payload, bool(message.retain)))
+        properties = tuple(getattr(getattr(message, "properties", None), "UserProperty", ()))
+        self.received_messages.append(ReceivedMessage(topic, message.payload, bool(message.retain), properties))
         self.arrived_count += 1
 
     def sockets(self) -> tuple[list[Any], list[Any]]:

@@ -4,6 +4,7 @@ from __future__ import annotations
 import itertools
 import json
 import time
+from collections import OrderedDict
 from collections.abc import Callable, Iterable
 from dataclasses import dataclass, field
 from datetime import datetime, timezone
@@ -12,11 +13,11 @@ from enogate_lines.contents import Content, Deleted, EndOfList, Learned, Listed,
 from enogate_lines.entities import Table
 
 from . import discovery
-from .state import LAST_SEEN_SUBTOPIC
+from .state import LAST_SEEN_SUBTOPIC, LASTING_SUBTOPICS
 from .topics import Message, Topics
 
 
-@dataclass
+@dataclass(slots=True)
 class Device:
     """A device. Its label is None until it is known that it has one or none; until then, Home Assistant is not shown
     the device. `last_readings` has its readings, by their subtopics. Its entities in Home Assistant have IDs with
@@ -45,9 +46,16 @@ class Devices:
                  clock: Callable[[], float] = time.monotonic):
         self.topics, self.table, self.expire_after = topics, table, expire_after
         self.label_wait, self.clock = label_wait, clock
-        # the devices that wait before they are shown, each with the end of its wait
-        self.wait_ends: dict[str, float] = {}
+        # the devices that wait before they are shown, each with the end of its wait: the earliest first
+        self.wait_ends: OrderedDict[str, float] = OrderedDict()
         self.known_devices = {device.name: device for device in known_devices}
+        # the identities of the known devices, and which of these devices have a label
+        self.identities: set[str] = set()
+        self.names_by_label: dict[str, set[str]] = {}
+        for device in self.known_devices.values():
+            self.index(device)
+        # the devices that became known since this was emptied
+        self.new_devices: set[str] = set()
         self.shown_configs = {device.name: self.discovery_configs(device) for device in self.known_devices.values()}
         # the topics whose retained messages are to be deleted
         self.removed_topics = set(removed_topics)
@@ -66,7 +74,7 @@ class Devices:
     def retained_messages(self, device: str) -> dict[str, str]:
         """Everything that the broker should retain about a device, by topic."""
         texts_by_subtopic = self.known_devices[device].last_readings
-        return self.shown_configs[device] | {self.topics.reading(device, subtopic): text
+        return self.shown_configs.get(device, {}) | {self.topics.reading(device, subtopic): text
                                              for subtopic, text in texts_by_subtopic.items()}
 
     def is_shown_on(self, topic: str) -> bool:
@@ -123,7 +131,7 @@ class Devices:
             self.needs_list = True
             return []
         self.list_count += 1
-        gone_devices = [self.known_devices.pop(name) for name in sorted(self.known_devices.keys() - set(listing))]
+        gone_devices = [self.pop(name) for name in sorted(self.known_devices.keys() - set(listing))]
         return [message for device in gone_devices for message in self.forget(device)]
 
     def label_of(self, name: str, now: float | None) -> str | None:
@@ -142,11 +150,32 @@ class Devices:
         """The device with this ID, which may be new. If another one has its identity, because it has replaced it, it
         gets a new one."""
         if name not in self.known_devices:
-            taken_identities = {device.identity for device in self.known_devices.values()}
             possible_identities = itertools.chain([name], (f"{name}_{number}" for number in itertools.count(2)))
             self.known_devices[name] = Device(name, eep, identity=next(identity for identity in possible_identities
-                                                                       if identity not in taken_identities))
+                                                                       if identity not in self.identities))
+            self.index(self.known_devices[name])
+            self.new_devices.add(name)
         return self.known_devices[name]
+
+    def index(self, device: Device) -> None:
+        """Notes the identity and the label of a known device."""
+        self.identities.add(device.identity)
+        if device.label:
+            self.names_by_label.setdefault(device.label, set()).add(device.name)
+
+    def unindex(self, device: Device) -> None:
+        """Undoes `index`, before its identity or label changes."""
+        self.identities.discard(device.identity)
+        if device.label:
+            self.names_by_label[device.label].remove(device.name)
+            if not self.names_by_label[device.label]:
+                del self.names_by_label[device.label]
+
+    def pop(self, name: str) -> Device:
+        """Removes a device from the known ones."""
+        self.unindex(self.known_devices[name])
+        self.new_devices.discard(name)
+        return self.known_devices.pop(name)
 
     def learn(self, name: str, eep: str, maker: int | None, label: str | None) -> list[Message]:
         """A device is learned, with this label, or None if it is not known yet."""
@@ -155,23 +184,26 @@ class Devices:
             # a list repeats what is known, and the discovery messages of 1,000 devices take seconds
             return []
         messages = self.set_profile(device, eep)
+        self.unindex(device)
         device.maker, device.label = maker, label
+        self.index(device)
         if label is not None:
             self.wait_ends.pop(name, None)
-            if label and self.label_wait and not self.shown_configs.get(name) and self.with_label(label, name):
+            if label and self.label_wait and not self.shown_configs.get(name) and self.others_with_label_of(device):
                 self.wait_ends[name] = self.clock() + self.label_wait
         return messages + self.update_discovery(device)
 
-    def with_label(self, label: str, name: str) -> list[Device]:
-        """The other devices with this label."""
-        return [device for device in self.known_devices.values() if device.label == label and device.name != name]
+    def others_with_label_of(self, device: Device) -> list[Device]:
+        """Other devices with the label of this one: at most two."""
+        names = (name for name in self.names_by_label.get(device.label or "", ()) if name != device.name)
+        return [self.known_devices[name] for name in itertools.islice(names, 2)]
 
     def end_label_waits(self) -> list[Message]:
         """Shows the devices that have waited for long enough."""
-        due = [self.known_devices[name] for name, wait_end in self.wait_ends.items() if self.clock() >= wait_end]
-        for device in due:
-            del self.wait_ends[device.name]
-            device.label = device.label or ""
+        due = []
+        while self.wait_ends and self.clock() >= next(iter(self.wait_ends.values())):
+            due.append(self.known_devices[self.wait_ends.popitem(last=False)[0]])
+            due[-1].label = due[-1].label or ""
         return [message for device in due for message in self.update_discovery(device)]
 
     def delete(self, name: str) -> list[Message]:
@@ -181,7 +213,7 @@ class Devices:
             self.needs_list = True
             self.changed_devices.add(name)
             return self.remove_readings(device)
-        return self.forget(self.known_devices.pop(name)) if device else []
+        return self.forget(self.pop(name)) if device else []
 
     def forget(self, device: Device) -> list[Message]:
         """Removes everything that is retained about a device that is not learned any more. Its entities remain if
@@ -193,7 +225,9 @@ class Devices:
         messages = self.remove_readings(device)
         if heir is None:
             return messages + self.delete_retained(discovery_topics)
+        self.unindex(heir)
         heir.identity = device.identity
+        self.index(heir)
         self.wait_ends.pop(heir.name, None)
         self.shown_configs[heir.name] = self.shown_configs.get(heir.name, {}) | discovery_topics
         return messages + self.update_discovery(heir)
@@ -201,7 +235,7 @@ class Devices:
     def heir_of(self, device: Device) -> Device | None:
         """The device that replaces another one: the only one with its label, if it also has its profile or was not
         shown yet."""
-        candidates = self.with_label(device.label, device.name) if device.label else []
+        candidates = self.others_with_label_of(device)
         is_heir = len(candidates) == 1 and (candidates[0].eep == device.eep
                                             or not self.shown_configs.get(candidates[0].name))
         return candidates[0] if is_heir else None
@@ -213,26 +247,30 @@ class Devices:
         self.needs_list |= is_unknown or device.eep != telegram.eep
         messages = self.set_profile(device, telegram.eep)
         texts_by_subtopic = self.table.readings_by_subtopic(telegram)
-        events = self.table.events_of(telegram)
-        if self.has_events(telegram.eep):
+        if now is not None:
+            texts_by_subtopic[LAST_SEEN_SUBTOPIC] = time_text(now)
+        messages += self.take_readings(device, texts_by_subtopic)
+        return messages + [Message(self.topics.reading(device.name, subtopic), event_payload(kind), False)
+                           for subtopic, kind in self.table.events_of(telegram)]
+
+    def take_readings(self, device: Device, texts_by_subtopic: dict[str, str]) -> list[Message]:
+        """The device has these readings."""
+        messages = []
+        if self.has_events(device.eep):
             # a rocker that is not pressed any more is not retained as pressed
             earlier_subtopics = [subtopic for subtopic in device.last_readings
-                                 if subtopic not in texts_by_subtopic and subtopic not in ("dbm", LAST_SEEN_SUBTOPIC)]
+                                 if subtopic not in texts_by_subtopic and subtopic not in LASTING_SUBTOPICS]
             messages += self.delete_retained(self.topics.reading(device.name, subtopic)
                                              for subtopic in earlier_subtopics)
             device.last_readings = {subtopic: text
                                     for subtopic, text in device.last_readings.items()
                                     if subtopic not in earlier_subtopics}
-        if now is not None:
-            texts_by_subtopic[LAST_SEEN_SUBTOPIC] = time_text(now)
         is_new = not texts_by_subtopic.keys() <= device.last_readings.keys()
         device.last_readings |= texts_by_subtopic
         self.changed_devices.add(device.name)
         messages += self.update_discovery(device) if is_new else []
-        messages += self.publish_retained({self.topics.reading(device.name, subtopic): text
-                                           for subtopic, text in texts_by_subtopic.items()})
-        return messages + [Message(self.topics.reading(device.name, subtopic), event_payload(kind), False)
-                           for subtopic, kind in events]
+        return messages + self.publish_retained({self.topics.reading(device.name, subtopic): text
+                                                 for subtopic, text in texts_by_subtopic.items()})
 
     def has_events(self, eep: str) -> bool:
         """Whether devices of this profile are switches, whose telegrams are events."""

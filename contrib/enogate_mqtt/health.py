@@ -2,12 +2,13 @@
 from __future__ import annotations
 
 import json
-from collections.abc import Callable
+from collections.abc import Callable, Sequence
 
 from enogate_lines.contents import Content, Response
 from enogate_lines.health import ObservedDevice, health_of
 from enogate_tools import VERSION
 from enogate_tools.port import is_base
+from enogate_tools.space import least_free_megabytes
 
 from .devices import Device, Devices, time_text
 from .requests import Requests
@@ -20,11 +21,13 @@ MAX_NAMED_DEVICES = 50
 
 
 class HealthReport:
-    """What the message says. `base` is the base ID in the last answer of the radio module."""
+    """What the message says. `folders` have the files of the gateway. `base` is the base ID in the last answer of the
+    radio module."""
 
     def __init__(self, devices: Devices, requests: Requests, clock: Callable[[], float],
-                 time_of_day: Callable[[], float]):
+                 time_of_day: Callable[[], float], folders: Sequence[str]):
         self.devices, self.requests, self.clock, self.time_of_day = devices, requests, clock, time_of_day
+        self.folders = folders
         self.base: str | None = None
         self.due = 0.0
 
@@ -51,6 +54,7 @@ class HealthReport:
         names_by_kind = {"low_battery": health.low_battery, "silent": health.silent, "weak": health.weak}
         members = {
             "base": self.base, "gateway": has_gateway, "stick": has_stick, "version": VERSION,
+            "free_megabytes": least_free_megabytes(self.folders),
             "last_telegram": None if last is None else time_text(last),
             "last_telegram_seconds": None if last is None else int(last),
             **{kind: {"count": len(names), "ids": names[:MAX_NAMED_DEVICES]} for kind, names in names_by_kind.items()},

@@ -15,8 +15,8 @@ MAX_MESSAGES, PERIOD = 10, 60.0
 class Formatter(logging.Formatter):
     """One line per message, with the name of the program."""
 
-    def __init__(self, with_priority: bool):
-        super().__init__("enogate-mqtt: %(message)s")
+    def __init__(self, with_priority: bool, program: str):
+        super().__init__(f"{program}: %(message)s")
         self.with_priority = with_priority
 
     def format(self, record: logging.LogRecord) -> str:
@@ -24,10 +24,11 @@ class Formatter(logging.Formatter):
         return PRIORITIES.get(record.levelno, "") + line if self.with_priority else line
 
 
-def set_up_logging(environment: Mapping[str, str], stream: TextIO = sys.stderr) -> None:
+def set_up_logging(environment: Mapping[str, str], stream: TextIO = sys.stderr, program: str = "enogate-mqtt"
+                   ) -> None:
     """Logs to standard error, with priorities if it is the journal."""
     handler = logging.StreamHandler(stream)
-    handler.setFormatter(Formatter("JOURNAL_STREAM" in environment))
+    handler.setFormatter(Formatter("JOURNAL_STREAM" in environment, program))
     logging.basicConfig(handlers=[handler], level=logging.INFO, force=True)
 
 

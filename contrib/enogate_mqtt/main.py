@@ -7,6 +7,7 @@ import os
 import signal
 import sys
 import time
+from collections.abc import Callable
 from types import ModuleType
 
 from enogate_lines.entities import Table
@@ -19,7 +20,7 @@ from .desk import Desk
 from .devices import Devices
 from .queries import Queries
 from .requests import Requests
-from .settings import EXIT_STATUS, Arguments, PublishingSettings, WrongSetting
+from .settings import EXIT_STATUS, Arguments, Login, PublishingSettings, WrongSetting
 from .settings import read_arguments, read_login, read_publishing_settings
 from .store import Store
 from .topics import Message, Topics
@@ -48,10 +49,8 @@ def run(words: Arguments, settings: PublishingSettings) -> None:
     """Connects the gateway to the broker, until a signal stops it."""
     login, clock = read_login(os.environ), time.monotonic
     topics = Topics(words.name, settings.discovery)
-    paho = import_paho()
+    broker = broker_of(import_paho(), login, topics, clock)
     store = Store(words.state, settings.discovery, words.boot)
-    broker = Broker(lambda version, is_reader: Connection(paho, login, topics, version, clock, is_reader),
-                    f"{login.host}:{login.port}", clock)
     removed_topics = store.removed_topics | old_discovery_topics(topics, store)
     devices = Devices(topics, Table(), settings.expire_after, store.devices, removed_topics,
                       may_adopt=store.may_adopt, label_wait=settings.label_wait, clock=clock)
@@ -61,7 +60,17 @@ def run(words: Arguments, settings: PublishingSettings) -> None:
     follower = Follower(words.lines, store.position, logging.warning, store.is_same_boot)
     wake = Waiter([words.lines, words.desk])
     bridge = Bridge(topics, broker, devices, follower, desk, requests, store, clock, time.time, wake.wait)
+    run_until_stopped(bridge, wake)
 
+
+def broker_of(paho: ModuleType, login: Login, topics: Topics, clock: Callable[[], float]) -> Broker:
+    """The broker of these settings, with connections of paho."""
+    return Broker(lambda version, is_reader: Connection(paho, login, topics, version, clock, is_reader),
+                  f"{login.host}:{login.port}", clock)
+
+
+def run_until_stopped(bridge: Bridge, wake: Waiter) -> None:
+    """Runs the bridge until a signal stops it."""
     def stop(_number: int, _frame: object) -> None:
         bridge.is_stopped = True
         wake.stop()
@@ -72,7 +81,9 @@ def run(words: Arguments, settings: PublishingSettings) -> None:
 
 
 def import_paho() -> ModuleType:
-    """The client library; only the running bridge needs it."""
+    """The client library; only the running bridge needs it. If dnspython is installed, paho would import it, with 20 MB
+    of other packages, for a function that is not used."""
+    sys.modules.setdefault("dns", None)
     try:
         return importlib.import_module("paho.mqtt.client")
     except ImportError as error:

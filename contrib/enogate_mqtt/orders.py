@@ -51,6 +51,14 @@ def command_order(subtopic: str, command: str) -> tuple[str | None, str]:
     raise InvalidMessage("the topic is not ID/OV/CHANNEL/set or ID/POS/0/set (with ID in upper case)")
 
 
+def is_command(reading: str, command: str) -> bool:
+    """Whether this is a command for the reading ID/NAME/CHANNEL."""
+    try:
+        return command_order(f"{reading}/set", command)[0] is not None
+    except InvalidMessage:
+        return False
+
+
 def switch_order(channel: str, command: str, percent: str | None) -> str | None:
     """The order for a channel of an actuator."""
     if percent is not None:

@@ -2,7 +2,7 @@
 from __future__ import annotations
 
 import logging
-from collections import deque
+from collections import OrderedDict, deque
 from collections.abc import Callable, Container
 from dataclasses import dataclass
 
@@ -21,7 +21,7 @@ MAX_EVENTS = 1000
 LATE_AFTER = 10.0
 
 
-@dataclass
+@dataclass(slots=True)
 class Entry:
     """A line, the position before it in the file, when it was read (by the clock of the bridge, and in seconds since
     1970, if that is known), and the number of its message once it is published. A line that was read before there was
@@ -46,13 +46,14 @@ class Outbox:
         self.entries: deque[Entry] = deque()
         self.is_dropping = False
 
-    def add(self, line: str, start_position: Position, read_at: float = 0.0, time_of_day: float | None = None) -> None:
+    def add(self, line: str, start_position: Position, read_at: float = 0.0, time_of_day: float | None = None,
+            is_late: bool = False) -> None:
         if len(self.entries) == MAX_LINES:
             self.entries.popleft()
             if not self.is_dropping:
                 logging.warning("broker unavailable or too slow: %s lines kept, dropping the oldest", MAX_LINES)
             self.is_dropping = True
-        self.entries.append(Entry(line, start_position, read_at, time_of_day))
+        self.entries.append(Entry(line, start_position, read_at, time_of_day, is_late=is_late))
 
     def start_session(self) -> None:
         """A new connection knows nothing of messages that were published on another one."""
@@ -86,7 +87,8 @@ class Backlog:
 
     def __init__(self) -> None:
         self.events: deque[Message] = deque(maxlen=MAX_EVENTS)
-        self.states: dict[str, Message] = {}
+        # a plain dict would search for its first item among those that were removed
+        self.states: OrderedDict[str, Message] = OrderedDict()
 
     def __len__(self) -> int:
         return len(self.events) + len(self.states)
@@ -99,4 +101,4 @@ class Backlog:
 
     def pop_next(self) -> Message:
         """Removes the message that is published next."""
-        return self.events.popleft() if self.events else self.states.pop(next(iter(self.states)))
+        return self.events.popleft() if self.events else self.states.popitem(last=False)[1]

@@ -3,7 +3,7 @@ the queue of a client, so it is never asked for everything at once."""
 from __future__ import annotations
 
 from collections import deque
-from collections.abc import Callable, Iterable
+from collections.abc import Callable, Collection, Iterable
 from typing import Protocol
 
 # So many devices are compared at the same time.
@@ -28,10 +28,10 @@ class Part:
     which the broker may retain anything, is compared alone; of what it retains, messages that are expected are always
     noted."""
 
-    def __init__(self, name: str, filters: list[str], is_large: bool = False, expected_topics: Iterable[str] = ()):
+    def __init__(self, name: str, filters: list[str], is_large: bool = False, expected_topics: Collection[str] = ()):
         self.name, self.filters, self.is_large = name, filters, is_large
         self.exact_topics = {topic_filter for topic_filter in filters if "+" not in topic_filter}
-        self.expected_topics = self.exact_topics.union(expected_topics)
+        self.expected_topics = expected_topics
         self.unexpected_count = 0
         # the other filters, each as the text before its first wildcard and its levels
         self.wildcard_filters = [(topic_filter.partition("+")[0], topic_filter.split("/"))
@@ -55,9 +55,9 @@ class Part:
         """A retained message has arrived."""
         if topic in self.published_topics:
             return
-        if topic not in self.expected_topics and topic not in self.retained:
-            self.unexpected_count += 1
-        if topic in self.expected_topics or topic in self.retained or self.unexpected_count <= MAX_UNKNOWN:
+        is_expected = topic in self.exact_topics or topic in self.expected_topics or topic in self.retained
+        self.unexpected_count += not is_expected
+        if is_expected or self.unexpected_count <= MAX_UNKNOWN:
             self.retained[topic] = text
 
 

@@ -134,12 +134,13 @@ def read_login(environment: Mapping[str, str]) -> Login:
         if user is None:
             raise WrongSetting("MQTT_PASSWORD_FILE is set, but MQTT_USER is not")
     tls = read_tls(environment)
-    return Login(host, read_port(environment.get("MQTT_PORT") or ("8883" if tls else "1883")), user, password, tls)
+    port = read_port("MQTT_PORT", environment.get("MQTT_PORT") or ("8883" if tls else "1883"))
+    return Login(host, port, user, password, tls)
 
 
-def read_port(port: str) -> int:
+def read_port(name: str, port: str) -> int:
     if not re.fullmatch("[0-9]{1,5}", port) or not 0 < int(port) < 65536:
-        raise WrongSetting(f"invalid MQTT_PORT: {port} (expected 1 to 65535)")
+        raise WrongSetting(f"invalid {name}: {port} (expected 1 to 65535)")
     return int(port)
 
 

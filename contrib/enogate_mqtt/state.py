@@ -17,8 +17,10 @@ VERSION = 2
 MAX_SIZE = 1 << 62
 # How long `last_seen` waits for a bridge that is writing, in seconds.
 LOCK_WAIT = 1.0
-# The subtopic of the reading with the time of the last telegram.
-LAST_SEEN_SUBTOPIC = "last_seen"
+# The subtopic of the reading with the time of the last telegram, and of that with the gateways of a site that hear a
+# device. These and the signal strength remain when a rocker is released.
+LAST_SEEN_SUBTOPIC, COVERAGE_SUBTOPIC = "last_seen", "coverage"
+LASTING_SUBTOPICS = ("dbm", LAST_SEEN_SUBTOPIC, COVERAGE_SUBTOPIC)
 
 
 class ForeignFile(Exception):

@@ -43,6 +43,8 @@ class Store:
     the bridge runs without it, and it is tried again at each save. `discovery` is the topic prefix of the discovery
     messages that were published last, `boot` identifies this boot of the computer."""
 
+    create_tables = CREATE_TABLES
+
     def __init__(self, path: str, discovery: str, boot: str = ""):
         self.path, self.discovery, self.boot = path, discovery, boot
         # whether the last save failed, and whether the file lacks changes of this run
@@ -93,7 +95,7 @@ class Store:
     def prepare(self, wait: float) -> None:
         self.connection = sqlite3.connect(self.path, timeout=wait)
         check_version(self.connection)
-        self.connection.executescript(CREATE_TABLES)
+        self.connection.executescript(self.create_tables)
         self.read(self.connection)
 
     def read_without_writing(self) -> None:

@@ -4,7 +4,7 @@ from __future__ import annotations
 from dataclasses import dataclass
 
 
-@dataclass(frozen=True)
+@dataclass(frozen=True, slots=True)
 class Message:
     """A message to publish. A retained message without a payload deletes what the broker retains. With MQTT 5, it has
     these user properties: names and texts."""
@@ -84,6 +84,11 @@ class Topics:
     def command_filters(self) -> list[str]:
         """Filters for everything that the bridge receives as an order."""
         return [self.orders, self.learn_command, self.command("+", "+/+")]
+
+    @property
+    def subscriptions(self) -> list[str]:
+        """Filters for everything that a connection subscribes to. Those for orders are the first."""
+        return [*self.command_filters, *self.watched_topics]
 
     def reading(self, device: str, subtopic: str) -> str:
         """The topic of a reading: this subtopic of the topic of the device."""

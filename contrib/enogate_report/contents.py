@@ -10,7 +10,7 @@ from collections.abc import Callable
 
 from enogate_tools import VERSION, files
 from enogate_tools.check import Check, settings_in
-from enogate_tools.gateways import SETTINGS_FOLDER
+from enogate_tools.gateways import settings_paths
 from enogate_tools.port import is_base
 
 MAX_TEXT, COMMAND_TIMEOUT = 1 << 20, 60
@@ -22,7 +22,8 @@ SHOWN_SETTINGS = {"BASE": "[0-9A-Fa-f]{8}", "SERIAL": "/(dev|run)/[A-Za-z0-9/._:
     "MQTT_TLS": YES_OR_NO_PATTERN,
     "MQTT_CA_FILE": "", "MQTT_CERT_FILE": "", "MQTT_KEY_FILE": "", "MQTT_DISCOVERY": "homeassistant",
     "MQTT_EXPIRE_AFTER": "auto|[0-9]+", "MQTT_LEARN_SECONDS": NUMBER_PATTERN, "MQTT_LABEL_SECONDS": NUMBER_PATTERN,
-    "MQTT_QUERY": YES_OR_NO_PATTERN}
+    "MQTT_QUERY": YES_OR_NO_PATTERN,
+    "MODBUS_ADDRESS": "", "MODBUS_PORT": NUMBER_PATTERN, "MODBUS_ORDERS": YES_OR_NO_PATTERN}
 # A value of this length is found in other words.
 MAX_UNHIDDEN, HIDDEN_TEXT = 2, "(hidden)"
 BRIDGE_JOURNAL = "journal-mqtt.txt"
@@ -43,10 +44,9 @@ def output_of(command: list[str]) -> str:
 
 
 def settings(check: Check, missing: list[str]) -> tuple[str, set[str]]:
-    """The settings of gateway and bridge, and the values that are hidden."""
+    """The settings of gateway, bridge and Modbus server, and the values that are hidden."""
     text, hidden = "", set[str]()
-    for file_end in ("", f"-{check.name}", "-mqtt", f"-mqtt-{check.name}"):
-        path = f"{SETTINGS_FOLDER}/enogate{file_end}"
+    for path in settings_paths(check.name):
         try:
             with open(check.system.path(path), encoding="utf-8", errors="replace") as file:
                 values = settings_in(file.read(MAX_TEXT))

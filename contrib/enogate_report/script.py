@@ -13,7 +13,7 @@ from enogate_lines.contents import checked_number, checked_text, dbm_of, device_
 from enogate_tools import esp3
 from enogate_tools.share import device_kind, texts_by_word
 
-MAX_SCRIPT, MAX_DEVICES, MAX_BYTES = 1 << 24, 1000, 99
+MAX_SCRIPT_BYTES, MAX_DEVICES, MAX_LINE_BYTES = 1 << 24, 1000, 99
 RESULT_TEXTS = texts_by_word("result")
 # The type of the line that follows a packet line with this reason, and the counter of the packet.
 FOLLOWING_BY_REASON = {"read": ("reading", "readings"), "response": ("response", "responses"),
@@ -53,7 +53,7 @@ class Script:
     def take(self, lines: list[Members]) -> None:
         """Appends the order or the packet with this answer, and before it what sets the state for it."""
         match lines[0]:
-            case {"type": "packet", "why": reason} if reason != "refused" and self.size < MAX_SCRIPT:
+            case {"type": "packet", "why": reason} if reason != "refused" and self.size < MAX_SCRIPT_BYTES:
                 order = self.packet_order(reason, lines[0], lines[-1])
             case {"type": "device" | "list"} if lines[-1]["count"] == len(lines) - 1:
                 order = self.list_order(lines[:-1])
@@ -95,8 +95,8 @@ class Script:
             # A packet has data or optional data.
             packet_bytes = esp3.packet(kind, data, b"" if size else b"\0")
         self.counts[FOLLOWING_BY_REASON.get(reason, ("", "ignored"))[1]] += 1
-        return "\n".join(f"S {packet_bytes[offset:offset + MAX_BYTES].hex().upper()}"
-                         for offset in range(0, len(packet_bytes), MAX_BYTES))
+        return "\n".join(f"S {packet_bytes[offset:offset + MAX_LINE_BYTES].hex().upper()}"
+                         for offset in range(0, len(packet_bytes), MAX_LINE_BYTES))
 
     def telegram(self, reason: str, packet_line: Members, report: Members) -> bytes:
         """The packet of a telegram."""

@@ -11,10 +11,10 @@ import tempfile
 import time
 
 from . import VERSION, files, gateways, port as ports
+from .space import MEGABYTE
 from .system import OpenFile, System, is_same_file
 
 OK, FAULT, UNCHECKED = "ok", "fault", "not checked"
-MEGABYTE = 1024 * 1024
 # The write-ahead log of the database grows to 4.3 MB.
 MIN_SPACE = {"/var/lib": 5 * MEGABYTE, "/var/log": MEGABYTE}
 # How much is copied of the database and of its log, and how many instructions SQLite may execute for a question: the
@@ -152,7 +152,7 @@ class Check:
         advice = f"correct it in /etc/default/enogate-{self.name}"
         base, turns = self.settings["BASE"], self.settings["TURNS"]
         if base and not ports.is_base(base):
-            yield FAULT, f"BASE={base} is not a base ID ({ports.BASE_FORM}): {advice}, or remove it"
+            yield FAULT, f"BASE={base} is not a base ID ({ports.BASE_FORM_IN_WORDS}): {advice}, or remove it"
         if not (turns.isdecimal() and 1 <= int(turns) <= 4294967295):
             yield FAULT, f"TURNS={turns} is not a number from 1 to 4294967295: {advice}"
         if self.settings["EXPLAIN"] not in ("", "--explain"):

@@ -1,11 +1,13 @@
-"""Opens files in the directory of another user, such as that of the service. That user could replace one of them by a
-link to a file of a third user, by a device, or by a pipe."""
+"""Opens files in the directory of another user, such as that of the service, and replaces whole files. That user could
+replace one of them by a link to a file of a third user, by a device, or by a pipe."""
 from __future__ import annotations
 
 import errno
 import os
 import pwd
 import stat
+from collections.abc import Callable
+from typing import IO
 
 LINK_FAULT, IRREGULAR_FAULT = "it is a symbolic link", "it is not a regular file"
 OPEN_FLAGS = os.O_NOFOLLOW | os.O_NONBLOCK | os.O_NOCTTY | os.O_CLOEXEC
@@ -70,6 +72,33 @@ def open_regular(path: str) -> int:
         os.close(file)
         raise Unsafe(IRREGULAR_FAULT, path)
     return file
+
+
+def replace_file(directory: int, name: str, mode: int, write: Callable[[IO[bytes]], object]) -> None:
+    """Puts a file with this mode, and what `write` writes to it, into an open directory, or raises OSError. After a
+    power failure, the earlier file or this one is there, and perhaps the temporary file."""
+    temporary = f"{name}.{os.urandom(8).hex()}"
+    file = os.open(temporary, os.O_WRONLY | os.O_CREAT | os.O_EXCL, mode, dir_fd=directory)
+    try:
+        with os.fdopen(file, "wb") as stream:
+            os.fchmod(file, mode)
+            write(stream)
+            stream.flush()
+            os.fsync(file)
+        os.rename(temporary, name, src_dir_fd=directory, dst_dir_fd=directory)
+    except BaseException:
+        os.unlink(temporary, dir_fd=directory)
+        raise
+    os.fsync(directory)
+
+
+def replace_path(path: str, mode: int, content: bytes) -> None:
+    """Puts a file with this mode and content at a path, in the same way."""
+    directory = os.open(os.path.dirname(path) or ".", os.O_RDONLY | os.O_DIRECTORY | os.O_CLOEXEC)
+    try:
+        replace_file(directory, os.path.basename(path), mode, lambda file: file.write(content))
+    finally:
+        os.close(directory)
 
 
 def require_safe(status: os.stat_result, owner: int, path: str) -> None:

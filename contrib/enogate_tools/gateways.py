@@ -55,6 +55,12 @@ def all_paths(root: str = "") -> dict[str, dict[str, str]]:
                          "settings": f"{root}{SETTINGS_FOLDER}/enogate-{paths.name}"} for paths in paths_of_names}
 
 
+def settings_paths(name: str) -> list[str]:
+    """The files with the settings of a gateway, its bridge and its Modbus server. Each of them may be missing."""
+    return [f"{SETTINGS_FOLDER}/{file}" for shared_file in ("enogate", "enogate-mqtt", "enogate.modbus")
+            for file in (shared_file, f"{shared_file}-{name}")]
+
+
 def gateway_names(root: str = "") -> list[str]:
     """The names of the gateways that may be started, and of those that have a desk: its directory may also be that of a
     unit that was not started. A directory that this user may not read counts as empty. `root` is put before all."""

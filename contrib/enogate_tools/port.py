@@ -17,7 +17,7 @@ from .esp3 import RESPONSE, packets_in
 BASE_REQUEST = bytes.fromhex("5500010005700838")
 # A module answers within 0.5 s (ESP3); the rest is for a slow computer.
 ANSWER_TIMEOUT = 2.0
-BASE_FORM = "8 hexadecimal digits from FF800000 to FFFFFF80; the last two are 00 or 80"
+BASE_FORM_IN_WORDS = "8 hexadecimal digits from FF800000 to FFFFFF80; the last two are 00 or 80"
 NO_MODULE = "no radio module answers at {}: check that this is its port, and that it uses ESP3 at 57,600 baud"
 
 # The settings as stty prints them: the line of the guide sets the same ones.

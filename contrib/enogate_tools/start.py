@@ -45,7 +45,8 @@ def parse_arguments(arguments: list[str]) -> argparse.Namespace:
         parser.error("--unit, --lines: either both or none are required")
     if words.base and not ports.is_base(words.base):
         prefix = "" if words.unit else "enogate-port: "
-        parser.exit(2, f"{prefix}BASE={words.base} is not a base ID ({ports.BASE_FORM}): correct it, or remove it\n")
+        parser.exit(2, f"{prefix}BASE={words.base} is not a base ID ({ports.BASE_FORM_IN_WORDS}): correct it, or "
+                    "remove it\n")
     return words
 
 

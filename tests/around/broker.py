@@ -51,11 +51,16 @@ class Certificates:
                          "-CAcreateserial", "-days", "2", "-extfile", f"{name}.ext", "-out", f"{name}.crt")
 
 
+def rules_of(page: pathlib.Path, user: str) -> str:
+    """The rights of a user that a page of the guide lists."""
+    rules_match = re.search(rf"^user {user}\n((?:topic .*\n)+)```$", page.read_text(), re.MULTILINE)
+    assert rules_match, f"{page} lists no rights"
+    return rules_match[1]
+
+
 def access_rules() -> str:
     """The bridge has the rights that the guide lists, and no others."""
-    rules_match = re.search(r"^user enogate\n((?:topic .*\n)+)```$", GUIDE.read_text(), re.MULTILINE)
-    assert rules_match, f"{GUIDE} lists no rights"
-    return f"user {PEOPLE_LOGIN[0]}\ntopic readwrite #\nuser {BRIDGE_LOGIN[0]}\n{rules_match[1]}"
+    return f"user {PEOPLE_LOGIN[0]}\ntopic readwrite #\nuser {BRIDGE_LOGIN[0]}\n{rules_of(GUIDE, 'enogate')}"
 
 
 class Broker(Program):

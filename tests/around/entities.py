@@ -68,7 +68,7 @@ def values_of_row(decoder, length):
             if "num" in reading or "raw" in reading]
 
 
-def fewest_digits(eep, name, unit):
+def fewest_decimals(eep, name, unit):
     """The fewest digits after the point with which adjacent raw numbers look different."""
     decoders = [(decoder, length) for profile, rows in rows_by_profile() if profile == eep
                 for row, _offset, length, _condition, decoder in rows
@@ -161,8 +161,8 @@ def faults_of_digits(entity, config, reading):
     elif "digits" in config and reading[0][:5] in MAX_CHOSEN_DIGITS:
         if not 0 <= int(config["digits"]) <= MAX_CHOSEN_DIGITS[reading[0][:5]]:
             yield "too many digits"
-    elif "digits" in config and int(config["digits"]) != fewest_digits(*reading):
-        yield f"{config['digits']} digits, and not {fewest_digits(*reading)}"
+    elif "digits" in config and int(config["digits"]) != fewest_decimals(*reading):
+        yield f"{config['digits']} digits, and not {fewest_decimals(*reading)}"
 
 
 def faults_of(line, reading, words):

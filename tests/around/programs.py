@@ -12,11 +12,11 @@ from typing import Callable, Self, Sequence, TypeVar
 WITHIN = 30.0
 MAX_LIFE = 1800
 PAUSE = 0.02
-Observation = TypeVar("Seen")
+Observation = TypeVar("Observation")
 
 
 def wait_for(observe: Callable[[], Observation], is_expected: Callable[[Observation], object]) -> Observation:
-    """The result of `see` once it is true, or after WITHIN seconds."""
+    """The first observation that is expected, or the last one after WITHIN seconds."""
     deadline = time.monotonic() + WITHIN
     while not is_expected(observation := observe()) and time.monotonic() < deadline:
         time.sleep(PAUSE)

@@ -16,7 +16,8 @@ HERE = pathlib.Path(__file__).resolve().parent
 ROOT = HERE.parents[1]
 CONTRIB = ROOT / "contrib"
 PROGRAM = ROOT / os.environ.get("TESTED_PROGRAM", "crates/enogate/out/enogate")
-COMMANDS = {"enogate": PROGRAM, **{name: CONTRIB / name for name in ("enogate-mqtt", "enogate-port", "enogate-check")}}
+COMMANDS = {"enogate": PROGRAM, **{name: CONTRIB / name for name in ("enogate-mqtt", "enogate-modbus", "enogate-port",
+                                                                     "enogate-check")}}
 CTL = CONTRIB / "enogatectl"
 BASE = "FF800000"
 
@@ -63,7 +64,8 @@ class Unit(Program):
         self.work, self.script = work, work / f"{unit}.sh"
         self.desk, self.lines_path = work / "run/enogate/hall/desk", work / "log/enogate/hall.lines"
         self.state = work / "lib/enogate-mqtt/hall.db"
-        for folder in (self.desk.parent, self.lines_path.parent, self.state.parent, work / "lib/enogate", work / "bin"):
+        for folder in (self.desk.parent, self.lines_path.parent, self.state.parent, work / "lib/enogate",
+                       work / "lib/enogate-modbus", work / "bin"):
             folder.mkdir(parents=True, exist_ok=True)
         for name, program in COMMANDS.items():
             if not (work / "bin" / name).exists():

@@ -69,9 +69,9 @@ class TerminalTest(LiveTest):
         self.programs: dict[str, BackgroundProgram] = {}
         self.plug_in()
 
-    def plug_in(self, tenths: int = 1) -> None:
+    def plug_in(self, read_wait_tenths: int = 1) -> None:
         """A new stick is the serial line. A read of it waits for this many tenths of a second."""
-        self.stick = self.enterContext(Stick(tenths))
+        self.stick = self.enterContext(Stick(read_wait_tenths))
         self.line = self.stick.path
         self.expected_sent = b""
 

@@ -286,7 +286,7 @@ class RightsTable(RightsTest):
 
     def test_each_cell(self):
         table = self.table()
-        self.assertEqual(len(table), 12)
+        self.assertEqual(len(table), 14)
         for name, *cells in table:
             path = self.work / name.removeprefix("/var").removeprefix("/")
             self.assertTrue(path.is_file(), path)

@@ -7,6 +7,9 @@ import logging
 import pathlib
 import tempfile
 import unittest
+from collections import OrderedDict
+from collections.abc import ItemsView, KeysView, ValuesView
+from unittest import mock
 
 from enogate_lines.entities import Table
 from enogate_lines.follow import Follower
@@ -18,6 +21,7 @@ from enogate_mqtt.queries import Queries
 from enogate_mqtt.requests import Requests
 from enogate_mqtt.store import Store
 from enogate_mqtt.topics import Topics
+from enogate_tools import space
 
 OK = {"type": "ok"}
 # How long a test may take, in seconds; the slowest one takes some ten on a busy machine.
@@ -152,6 +156,9 @@ class FakeBroker:
 class BridgeFixture:
     """The files of a gateway in a temporary folder, and a bridge to a fake broker."""
 
+    # whether the index is checked after each turn, which visits all devices
+    checks_index = True
+
     def __init__(self, test_case: unittest.TestCase):
         folder = tempfile.TemporaryDirectory()
         test_case.addCleanup(folder.cleanup)
@@ -162,6 +169,9 @@ class BridgeFixture:
         self.topics = Topics("hall", "homeassistant")
         # the last wait of the bridge: for which connections, how long, and whether a change of a file ends it
         self.wait_calls: tuple[list, float, bool] = [], 0.0, True
+        # of the file systems of the database, and of the lines
+        self.free_bytes = {"/var/lib/enogate": 4 * 2 ** 20, str(self.folder): 4 * 2 ** 20 - 1}
+        test_case.enterContext(mock.patch.object(space, "free_bytes", self.free_bytes.get))
         self.lines.touch()
         self.desk.touch()
 
@@ -177,6 +187,7 @@ class BridgeFixture:
         self.bridge = Bridge(self.topics, self.broker, devices, follower, desk, requests, store, self.clock,
                              self.wall, self.wait)
         self.bridge.read_earlier_lines()
+        check_index(self.bridge.devices)
         return self.bridge
 
     def wait(self, *connections) -> None:
@@ -195,6 +206,8 @@ class BridgeFixture:
     def run_turns(self, count: int = 6, seconds: float = 0.1) -> None:
         for _ in range(count):
             self.bridge.turn()
+            if self.checks_index:
+                check_index(self.bridge.devices)
             self.clock.now += seconds
 
     def write_lines(self, *lines) -> None:
@@ -223,6 +236,16 @@ class BridgeFixture:
         return [(topic, text) for topic, text, _ in self.broker.connection.published if topic.startswith(start)]
 
 
+def check_index(devices: Devices) -> None:
+    """The index has the identities and labels that the known devices have."""
+    names_by_label: dict[str, set[str]] = {}
+    for device in devices.known_devices.values():
+        if device.label:
+            names_by_label.setdefault(device.label, set()).add(device.name)
+    identities = {device.identity for device in devices.known_devices.values()}
+    assert (devices.identities, devices.names_by_label) == (identities, names_by_label)
+
+
 def reading(device: str, eep: str = "A5-02-05", readings=None, dbm: int | None = -45) -> dict:
     readings = readings or [{"den": 1, "name": "TMP", "num": 20, "unit": "C"}]
     return {"dbm": dbm, "eep": eep, "id": device, "readings": readings, "type": "reading"}
@@ -241,6 +264,33 @@ def listing(*devices: tuple[str, str, str]) -> list[dict]:
 def status(mode: str = "closed", **counters: int) -> dict:
     all_counters = {"ignored": 0, "readings": 0, "refused": 0, "responses": 0, "teach": 0, **counters}
     return {**all_counters, "mode": mode, "type": "status"}
+
+
+class VisitedDict(OrderedDict):
+    """A dict that counts the items that loops over all such dicts and copies of them visit."""
+
+    visit_count = 0
+
+    def __iter__(self):
+        for key in super().__iter__():
+            VisitedDict.visit_count += 1
+            yield key
+
+    def keys(self):
+        return KeysView(self)
+
+    def values(self):
+        return ValuesView(self)
+
+    def items(self):
+        return ItemsView(self)
+
+
+def count_visits(*objects: object) -> None:
+    """Counts visits of all dicts that are attributes of these objects."""
+    for one in objects:
+        vars(one).update({name: VisitedDict(value) for name, value in vars(one).items()
+                          if type(value) in (dict, OrderedDict)})
 
 
 class TimeLimitedTest(unittest.TestCase):

@@ -769,6 +769,7 @@ class WholeBridge(LogTest):
         connection = self.fixture.broker.connection
         self.assertEqual((self.fixture.published()[-1], connection.is_ended),
                          ((TOPIC_ROOT + "status", "offline"), True))
+        self.assertEqual([path.name for path in self.fixture.folder.glob("hall.db*")], ["hall.db"])
         self.fixture.broker.lose()
         self.fixture.start()
         self.fixture.broker.accept_connection()
@@ -795,6 +796,13 @@ class WholeBridge(LogTest):
         self.fixture.start()
         self.fixture.stop()
         self.assertEqual(self.logged_lines, [])
+
+    def test_a_telegram_without_anything_to_publish_before_the_connection(self):
+        self.fixture.start()
+        self.fixture.write_lines({**reading("01800AB1"), "readings": [], "dbm": None})
+        self.fixture.broker.accept_connection()
+        self.fixture.run_turns()
+        self.assertTrue(self.fixture.bridge.is_online)
 
     def test_bad_lines(self):
         self.start()

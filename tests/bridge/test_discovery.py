@@ -401,7 +401,7 @@ class Templates(unittest.TestCase):
             "0": "open", "99": "open", "100": "closed", "unknown": "None", "out_of_range": "None"})
 
 
-class ComponentKinds(unittest.TestCase):
+class KnownComponents(unittest.TestCase):
     def test_those_of_the_table(self):
         self.assertEqual({row.entity for row in TABLE.rows}, {*discovery.CONFIG_BY_COMPONENT, ""})
 

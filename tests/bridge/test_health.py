@@ -59,7 +59,7 @@ class HealthMessages(LogTest):
         self.assertEqual(self.messages(), [])
         self.write_answers(reading("01800ABC"))
         self.assertEqual(self.messages(), [{
-            "base": BASE, "gateway": True, "stick": True, "version": VERSION,
+            "base": BASE, "gateway": True, "stick": True, "version": VERSION, "free_megabytes": 3,
             "last_telegram": "2027-01-15T08:00:00+00:00", "last_telegram_seconds": 1_800_000_000,
             "silent": NOBODY, "weak": NOBODY, "low_battery": NOBODY}])
         self.assertEqual([is_retained for topic, _, is_retained in self.fixture.broker.connection.published
@@ -70,7 +70,8 @@ class HealthMessages(LogTest):
         self.fixture.run_turns(4, 5)
         self.assertEqual(self.messages(), [{
             "base": None, "gateway": False, "stick": False, "version": VERSION, "last_telegram": None,
-            "last_telegram_seconds": None, "silent": NOBODY, "weak": NOBODY, "low_battery": NOBODY}])
+            "last_telegram_seconds": None, "free_megabytes": 3,
+            "silent": NOBODY, "weak": NOBODY, "low_battery": NOBODY}])
 
     def test_a_stick_at_a_gateway_that_does_not_answer(self):
         """The stick does not count, even if a telegram comes."""
@@ -154,6 +155,16 @@ class HealthMessages(LogTest):
         self.pass_time(65)
         self.assertEqual(self.last()["base"], BASE)
 
+    def test_free_space(self):
+        """It is that of the file system with less."""
+        self.start()
+        self.write_answers()
+        for sizes, megabytes in (((9 * 2 ** 20, 5 * 2 ** 20), 5), ((2 ** 20 - 1, 2 ** 40), 0), ((None, 7 * 2 ** 20), 7),
+                                 ((7 * 2 ** 20, None), 7), ((None, None), None)):
+            self.fixture.free_bytes.update(zip(self.fixture.free_bytes, sizes))
+            self.pass_time(65)
+            self.assertEqual(self.last()["free_megabytes"], megabytes)
+
     def test_a_new_connection(self):
         """The message is published again only if the broker has another one, or none."""
         self.start()
@@ -189,7 +200,7 @@ class HealthMessages(LogTest):
             {"name": "SVC", "word": "evil\""}]), {**status(), "mode": hostile_text}, response(hostile_text),
             f'{{"type":"{hostile_text}"}}')
         self.assertNotIn("evil", self.fixture.published(TOPIC)[-1][1])
-        self.assertEqual(len(self.last()), 9)
+        self.assertEqual(len(self.last()), 10)
 
     def test_times_that_the_broker_retains(self):
         """Without a state file they are adopted, whatever they are."""

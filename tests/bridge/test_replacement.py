@@ -80,7 +80,7 @@ class Replacement(LogTest):
         self.start_bridge()
         self.client.published_count = 0
 
-    def give(self, order: str, line: dict | str) -> None:
+    def carry_out_order(self, order: str, line: dict | str) -> None:
         """Somebody gives an order, which the gateway carries out."""
         with self.fixture.desk.open("a") as desk:
             desk.write(order + "\n")
@@ -110,7 +110,7 @@ class Replacement(LogTest):
     def test_the_orders_at_once(self):
         """The list comes after all of them."""
         for order, line in STEPS:
-            self.give(order, line)
+            self.carry_out_order(order, line)
         self.answer_lists()
         self.assert_replaced()
         self.fixture.write_lines(reading(NEW_ID))
@@ -121,7 +121,7 @@ class Replacement(LogTest):
     def test_each_order_by_itself(self):
         """The list comes before the old device is deleted, too."""
         for order, line in STEPS:
-            self.give(order, line)
+            self.carry_out_order(order, line)
             self.answer_lists()
         self.assert_replaced()
 
@@ -131,7 +131,7 @@ class Replacement(LogTest):
             with self.subTest(count):
                 self.setUp()
                 for order, line in STEPS[:count]:
-                    self.give(order, line)
+                    self.carry_out_order(order, line)
                 self.answer_lists()
                 self.assertEqual(self.client.new_changes(), [])
                 for _ in range(60):
@@ -139,7 +139,7 @@ class Replacement(LogTest):
                     self.answer_lists(1)
                 self.assertEqual(sorted(self.client.new_changes()), ADDED_CHANGES)
                 for order, line in STEPS[count:]:
-                    self.give(order, line)
+                    self.carry_out_order(order, line)
                 self.answer_lists()
                 self.assertEqual(sorted(self.client.new_changes()),
                                  ADDED_CHANGES + [f"-{change[1:]}" for change in ADDED_CHANGES])
@@ -152,11 +152,11 @@ class Replacement(LogTest):
                 with self.subTest(count=count, is_saved=is_saved):
                     self.setUp()
                     for order, line in STEPS[:count]:
-                        self.give(order, line)
+                        self.carry_out_order(order, line)
                     self.fixture.run_turns(30 if is_saved else 1)
                     self.restart_bridge()
                     for order, line in STEPS[count:]:
-                        self.give(order, line)
+                        self.carry_out_order(order, line)
                     self.answer_lists(100)
                     self.assert_replaced()
 
@@ -165,7 +165,7 @@ class Replacement(LogTest):
         self.fixture.stop()
         self.fixture.broker.lose()
         for order, line in STEPS:
-            self.give(order, line)
+            self.carry_out_order(order, line)
         self.start_bridge()
         self.client.published_count = 0
         self.answer_lists()
@@ -178,7 +178,7 @@ class Replacement(LogTest):
     def test_a_broker_that_is_away(self):
         self.fixture.broker.lose()
         for order, line in STEPS:
-            self.give(order, line)
+            self.carry_out_order(order, line)
         self.answer_lists()
         self.fixture.broker.accept_connection()
         self.client.published_count = 0
@@ -192,7 +192,7 @@ class Replacement(LogTest):
         self.start_bridge(0)
         self.client = Client(self.fixture)
         for order, line in STEPS:
-            self.give(order, line)
+            self.carry_out_order(order, line)
             self.answer_lists()
         self.assertEqual(sorted(self.client.new_changes()),
                          ADDED_CHANGES + [f"-{change[1:]}" for change in ADDED_CHANGES])
@@ -202,17 +202,17 @@ class Replacement(LogTest):
     def test_twice(self):
         """The replaced device may come back, and the device in its place may be replaced."""
         for order, line in STEPS:
-            self.give(order, line)
+            self.carry_out_order(order, line)
         self.answer_lists()
-        self.give(f"add {OLD_ID} {EEP}", learned(OLD_ID))
-        self.give(f"label {OLD_ID} Cellar", OK)
+        self.carry_out_order(f"add {OLD_ID} {EEP}", learned(OLD_ID))
+        self.carry_out_order(f"label {OLD_ID} Cellar", OK)
         self.answer_lists()
         came = [f"+enogate_hall_{OLD_ID}_2_{end}" for end in ("dbm", "last_seen", "TMP")]
         self.assertEqual(sorted(self.client.new_changes()), sorted(came))
         self.client.changes = []
-        self.give(f"add {THIRD_ID} {EEP}", learned(THIRD_ID))
-        self.give(f"label {THIRD_ID} {LABEL}", OK)
-        self.give(f"remove {NEW_ID}", learned(NEW_ID, result="deleted"))
+        self.carry_out_order(f"add {THIRD_ID} {EEP}", learned(THIRD_ID))
+        self.carry_out_order(f"label {THIRD_ID} {LABEL}", OK)
+        self.carry_out_order(f"remove {NEW_ID}", learned(NEW_ID, result="deleted"))
         self.answer_lists()
         self.assert_replaced(THIRD_ID)
         self.restart_bridge()
@@ -224,20 +224,20 @@ class Replacement(LogTest):
         """A device that was shown before replaces only one of its own profile. One that was learned just now replaces
         any: the readings that both have keep their entities."""
         other_eep = "A5-04-01"
-        self.give(f"add {NEW_ID} {other_eep}", learned(NEW_ID, other_eep))
-        self.give(f"label {NEW_ID} {LABEL}", OK)
+        self.carry_out_order(f"add {NEW_ID} {other_eep}", learned(NEW_ID, other_eep))
+        self.carry_out_order(f"label {NEW_ID} {LABEL}", OK)
         self.answer_lists()
-        self.give(f"remove {OLD_ID}", learned(OLD_ID, result="deleted"))
+        self.carry_out_order(f"remove {OLD_ID}", learned(OLD_ID, result="deleted"))
         self.answer_lists()
         self.assertEqual(self.client.new_changes(), [f"+enogate_hall_{OLD_ID}_HUM"])
         self.client.changes = []
         self.assert_replaced()
-        self.give(f"add {THIRD_ID} {EEP}", learned(THIRD_ID))
+        self.carry_out_order(f"add {THIRD_ID} {EEP}", learned(THIRD_ID))
         self.answer_lists()
         self.fixture.run_turns(2, LABEL_WAIT_SECONDS)
-        self.give(f"label {THIRD_ID} {LABEL}", OK)
+        self.carry_out_order(f"label {THIRD_ID} {LABEL}", OK)
         self.answer_lists()
-        self.give(f"remove {NEW_ID}", learned(NEW_ID, result="deleted"))
+        self.carry_out_order(f"remove {NEW_ID}", learned(NEW_ID, result="deleted"))
         self.answer_lists()
         removed_changes = [f"-enogate_hall_{OLD_ID}_{end}" for end in ("HUM", "TMP", "dbm", "last_seen")]
         came = [f"+enogate_hall_{THIRD_ID}_{end}" for end in ENTITY_ENDS]
@@ -246,15 +246,15 @@ class Replacement(LogTest):
     def test_a_profile_with_fewer_readings(self):
         """The entity of a reading that the new device does not have goes."""
         other_eep = "A5-04-01"
-        self.give(f"add {NEW_ID} {other_eep}", learned(NEW_ID, other_eep))
-        self.give(f"label {NEW_ID} {LABEL}", OK)
-        self.give(f"remove {OLD_ID}", learned(OLD_ID, result="deleted"))
+        self.carry_out_order(f"add {NEW_ID} {other_eep}", learned(NEW_ID, other_eep))
+        self.carry_out_order(f"label {NEW_ID} {LABEL}", OK)
+        self.carry_out_order(f"remove {OLD_ID}", learned(OLD_ID, result="deleted"))
         self.answer_lists()
         self.assertEqual(self.client.new_changes(), [f"+enogate_hall_{OLD_ID}_HUM"])
         self.client.changes = []
-        self.give(f"add {THIRD_ID} {EEP}", learned(THIRD_ID))
-        self.give(f"label {THIRD_ID} {LABEL}", OK)
-        self.give(f"remove {NEW_ID}", learned(NEW_ID, result="deleted"))
+        self.carry_out_order(f"add {THIRD_ID} {EEP}", learned(THIRD_ID))
+        self.carry_out_order(f"label {THIRD_ID} {LABEL}", OK)
+        self.carry_out_order(f"remove {NEW_ID}", learned(NEW_ID, result="deleted"))
         self.answer_lists()
         self.assertEqual(self.client.new_changes(), [f"-enogate_hall_{OLD_ID}_HUM"])
         self.client.changes = []
@@ -274,7 +274,7 @@ class Replacement(LogTest):
         self.client.published_count = 0
         self.fixture.run_turns()
         for order, line in STEPS:
-            self.give(order, line)
+            self.carry_out_order(order, line)
         self.fixture.write_lines(*listing(*self.devices.values()))
         self.fixture.run_turns()
         self.fixture.bridge.reader.answers_requests = True
@@ -287,30 +287,30 @@ class Replacement(LogTest):
             with self.subTest(labels):
                 self.setUp()
                 for name, label in zip((NEW_ID, THIRD_ID), labels):
-                    self.give(f"add {name} {EEP}", learned(name))
-                    self.give(f"label {name} {label}", OK)
+                    self.carry_out_order(f"add {name} {EEP}", learned(name))
+                    self.carry_out_order(f"label {name} {label}", OK)
                 self.answer_lists()
                 self.fixture.run_turns(2, LABEL_WAIT_SECONDS)
                 self.client.new_changes()
                 self.client.changes = []
-                self.give(f"remove {OLD_ID}", learned(OLD_ID, result="deleted"))
+                self.carry_out_order(f"remove {OLD_ID}", learned(OLD_ID, result="deleted"))
                 self.answer_lists()
                 self.assertEqual(sorted(self.client.new_changes()), REMOVED_CHANGES)
 
     def test_a_device_without_a_label(self):
         """No other one replaces it. Its entities go at once."""
-        self.give(f"label {OLD_ID} ", OK)
+        self.carry_out_order(f"label {OLD_ID} ", OK)
         self.fixture.write_lines(*listing((OLD_ID, EEP, "")))
         self.fixture.run_turns()
-        self.give(f"add {NEW_ID} {EEP}", learned(NEW_ID))
-        self.give(f"remove {OLD_ID}", learned(OLD_ID, result="deleted"))
+        self.carry_out_order(f"add {NEW_ID} {EEP}", learned(NEW_ID))
+        self.carry_out_order(f"remove {OLD_ID}", learned(OLD_ID, result="deleted"))
         self.fixture.run_turns(2)
         self.assertEqual(sorted(self.client.new_changes()), REMOVED_CHANGES)
 
     def test_the_readings_go_at_once(self):
         """The entities go after the next list, which is asked for."""
         self.fixture.run_turns(10, 2)
-        self.give(f"remove {OLD_ID}", learned(OLD_ID, result="deleted"))
+        self.carry_out_order(f"remove {OLD_ID}", learned(OLD_ID, result="deleted"))
         list_count = self.fixture.orders().count("list")
         self.fixture.run_turns(2)
         self.assertEqual((self.client.new_changes(), self.fixture.orders().count("list")), ([], list_count + 1))
@@ -323,19 +323,19 @@ class Replacement(LogTest):
         self.assertEqual(self.fixture.bridge.devices.known_devices, {})
 
     def test_an_old_device_that_is_learned_again_remains(self):
-        self.give(f"add {NEW_ID} {EEP}", learned(NEW_ID))
-        self.give(f"remove {OLD_ID}", learned(OLD_ID, result="deleted"))
+        self.carry_out_order(f"add {NEW_ID} {EEP}", learned(NEW_ID))
+        self.carry_out_order(f"remove {OLD_ID}", learned(OLD_ID, result="deleted"))
         self.fixture.run_turns(2)
-        self.give(f"add {OLD_ID} {EEP}", learned(OLD_ID))
-        self.give(f"label {OLD_ID} {LABEL}", OK)
+        self.carry_out_order(f"add {OLD_ID} {EEP}", learned(OLD_ID))
+        self.carry_out_order(f"label {OLD_ID} {LABEL}", OK)
         self.answer_lists()
         self.fixture.run_turns(2, LABEL_WAIT_SECONDS)
         self.assertNotIn(f"-enogate_hall_{OLD_ID}_TMP", self.client.new_changes())
 
     def test_equal_labels(self):
         """Two devices may have the same label. The second one is shown after the wait."""
-        self.give(f"add {NEW_ID} {EEP}", learned(NEW_ID))
-        self.give(f"label {NEW_ID} {LABEL}", OK)
+        self.carry_out_order(f"add {NEW_ID} {EEP}", learned(NEW_ID))
+        self.carry_out_order(f"label {NEW_ID} {LABEL}", OK)
         self.answer_lists()
         self.assertEqual(self.client.new_changes(), [])
         self.fixture.run_turns(2, LABEL_WAIT_SECONDS)

@@ -13,6 +13,7 @@ from unittest import mock
 from enogate_ctl import backup
 from enogate_ctl.backup import write_backup
 from enogate_lines.contents import Listed
+from enogate_tools import gateways
 from fakes import TimeLimitedTest
 
 DEVICES = [Listed("01800ABC", "D5-00-01", "=Door", 70)]
@@ -27,7 +28,7 @@ class GatewayBackups(TimeLimitedTest):
         self.folder, self.settings = self.root / "backups", self.root / "default"
         self.folder.mkdir()
         self.settings.mkdir()
-        self.enterContext(mock.patch.object(backup, "SETTINGS_FOLDER", str(self.settings)))
+        self.enterContext(mock.patch.object(gateways, "SETTINGS_FOLDER", str(self.settings)))
 
     def write(self, now=DAY):
         return write_backup(str(self.folder), "hall", DEVICES, now.timestamp())
@@ -47,23 +48,25 @@ class GatewayBackups(TimeLimitedTest):
                     for one in archive}
 
     def test_devices_and_settings(self):
-        """Those of the gateway and of its bridge, and of no other one."""
-        for end in ("", "-hall", "-mqtt", "-mqtt-hall", "-attic", "-mqtt-attic", "-hall.dpkg-old"):
+        """Those of the gateway, its bridge and its Modbus server, and of no other one."""
+        for end in ("", "-hall", "-mqtt", "-mqtt-hall", ".modbus", ".modbus-hall", "-attic", "-mqtt-attic",
+                    ".modbus-attic", "-hall.dpkg-old"):
             (self.settings / f"enogate{end}").write_text(f"# {end}\n")
         self.assertEqual(self.write(), (str(self.folder / TODAY), False))
         self.assertEqual(self.contents(), {
             "devices.csv": CSV, "enogate": b"# \n", "enogate-hall": b"# -hall\n", "enogate-mqtt": b"# -mqtt\n",
-            "enogate-mqtt-hall": b"# -mqtt-hall\n"})
+            "enogate-mqtt-hall": b"# -mqtt-hall\n", "enogate.modbus": b"# .modbus\n",
+            "enogate.modbus-hall": b"# .modbus-hall\n"})
         self.assertEqual(self.names(), [TODAY])
 
     def test_the_names_of_settings(self):
         """An archive that is extracted at the root puts them where they were."""
-        with mock.patch.object(backup, "SETTINGS_FOLDER", "/etc/default"), \
+        with mock.patch.object(gateways, "SETTINGS_FOLDER", "/etc/default"), \
                 mock.patch("builtins.open", mock.mock_open(read_data=b"BASE=\n")) as opened:
             self.write()
         with tarfile.open(self.folder / TODAY) as archive:
             self.assertEqual(archive.getnames(), ["devices.csv", *(f"etc/default/enogate{end}" for end in (
-                "", "-hall", "-mqtt", "-mqtt-hall"))])
+                "", "-hall", "-mqtt", "-mqtt-hall", ".modbus", ".modbus-hall"))])
         self.assertEqual({call.args[1] for call in opened.call_args_list}, {"rb"})
 
     def test_settings_that_may_not_be_read(self):

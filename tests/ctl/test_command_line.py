@@ -439,24 +439,24 @@ class ProgramRuns(TimeLimitedTest):
         """If one of them fails with an error that telegrams have too, they are given again, one by one."""
         text = "01800ABC,D5-00-01,Door\n01800ABD,D5-00-01\n"
         adds = ["add 01800ABC D5-00-01", "add 01800ABD D5-00-01"]
-        nothing, ok, accepted = ['{"count":0,"type":"list"}'], ['{"type":"ok"}'], [
+        empty_list, ok, accepted = ['{"count":0,"type":"list"}'], ['{"type":"ok"}'], [
             '{"eep":"D5-00-01","id":"01800ABC","maker":null,"result":"accepted","type":"teach"}']
-        with self.patch_answers(nothing, accepted, accepted, ok):
+        with self.patch_answers(empty_list, accepted, accepted, ok):
             status, out, _ = run_ctl("hall", "devices", "--import", text=text)
             self.assertEqual(self.orders, [["list"], adds, ["label 01800ABC Door"], ["list"]])
             self.assertEqual((status, out.splitlines()), (0, ["row 1: 01800ABC: learned and labelled",
                                                               "row 2: 01800ABD: learned"]))
         for name in ("memory", "store"):
             failed = ['{"error":"%s","type":"error"}' % name]
-            with self.patch_answers(nothing, failed, accepted, accepted, failed, ok):
+            with self.patch_answers(empty_list, failed, accepted, accepted, failed, ok):
                 status, out, _ = run_ctl("hall", "devices", "--import", text=text)
                 self.assertEqual(self.orders, [["list"], adds, adds[:1], adds[1:], ["label 01800ABC Door"], ["list"]])
                 self.assertEqual((status, out.splitlines()[0]), (1, "row 1: 01800ABC: learned and labelled"))
                 self.assertIn(f"row 2: 01800ABD: not learned: {share.texts_by_word('error')[name]}", out)
-            with self.patch_answers(nothing, accepted, failed, accepted, accepted, ok):
+            with self.patch_answers(empty_list, accepted, failed, accepted, accepted, ok):
                 self.assertEqual(run_ctl("hall", "devices", "--import", text=text)[0], 0)
                 self.assertEqual(self.orders, [["list"], adds, adds[:1], adds[1:], ["label 01800ABC Door"], ["list"]])
-        with self.patch_answers(nothing, ['{"error":"full","type":"error"}']):
+        with self.patch_answers(empty_list, ['{"error":"full","type":"error"}']):
             self.assertEqual(run_ctl("hall", "devices", "--import", text=text)[0], 1)
             self.assertEqual(self.orders, [["list"], adds, ["list"]])
 

@@ -275,7 +275,7 @@ class ServerCommands(TimeLimitedTest):
     def test_a_program_that_ignores_the_ends_of_its_processes(self):
         before = signal.signal(signal.SIGCHLD, signal.SIG_IGN)
         self.addCleanup(signal.signal, signal.SIGCHLD, before)
-        self.assertEqual(self.served(lambda _: 7), 0)
+        self.assertEqual(self.exit_status_of_server(lambda _: 7), 0)
         self.assertIn(json.loads(self.answered.readline())["status"], (7, 143))
 
     def test_a_signal_while_nobody_reads_the_last_answer(self):
@@ -285,9 +285,9 @@ class ServerCommands(TimeLimitedTest):
             stops.handle_signal(15)
             raise BrokenPipeError
         with mock.patch.object(program.os, "write", side_effect=write):
-            self.assertEqual(self.served(lambda _: 0, stops), 143)
+            self.assertEqual(self.exit_status_of_server(lambda _: 0, stops), 143)
 
-    def served(self, run, stops=None):
+    def exit_status_of_server(self, run, stops=None):
         """The exit status of a server that is asked for a command."""
         asked, asks = os.pipe()
         with os.fdopen(asks, "wb") as file:

@@ -6,7 +6,7 @@ import tempfile
 import unittest
 
 from enogate_lines.contents import Reading, Telegram
-from enogate_lines.entities import AUTO, GREATEST_CHANNEL, Table, WrongTable, entity_row_of
+from enogate_lines.entities import AUTO, GREATEST_CHANNEL, Table, WrongTable, parsed_entity_row
 
 TABLE = Table()
 
@@ -47,7 +47,8 @@ class TableLines(unittest.TestCase):
     """The lines of the table."""
 
     def test_a_line(self):
-        entity_row = entity_row_of('D2-01-1? MV kWh MV_kWh IO?2 sensor "All energy" class=energy unit=kWh diagnostic')
+        entity_row = parsed_entity_row(
+            'D2-01-1? MV kWh MV_kWh IO?2 sensor "All energy" class=energy unit=kWh diagnostic')
         self.assertEqual((entity_row.profiles, entity_row.reading, entity_row.unit, entity_row.topic),
                          ("D2-01-1?", "MV", "kWh", "MV_kWh"))
         self.assertEqual((entity_row.by, entity_row.count, entity_row.from_the_start), ("IO", 2, False))
@@ -55,12 +56,12 @@ class TableLines(unittest.TestCase):
         self.assertEqual(entity_row.more, {"class": "energy", "unit": "kWh", "diagnostic": ""})
 
     def test_a_line_with_nothing_but_its_reading(self):
-        entity_row = entity_row_of("D2-01-?? UN - - - - -")
+        entity_row = parsed_entity_row("D2-01-?? UN - - - - -")
         self.assertEqual((entity_row.unit, entity_row.topic, entity_row.by, entity_row.count), ("", "", "", 0))
         self.assertEqual((entity_row.entity, entity_row.name, entity_row.more), ("", "", {}))
 
     def test_channels_from_the_start(self):
-        entity_row = entity_row_of("D2-01-0? OV % OV IO:1 switch -")
+        entity_row = parsed_entity_row("D2-01-0? OV % OV IO:1 switch -")
         self.assertEqual((entity_row.by, entity_row.count, entity_row.from_the_start), ("IO", 1, True))
 
     def test_a_wrong_line(self):
@@ -71,7 +72,7 @@ class TableLines(unittest.TestCase):
                      "A5-02-?? TMP C TMP - sensor T cyclic", "A5-02-?? TMP C TMP - sensor T cyclic=0",
                      "A5-02-?? TMP C TMP - sensor T cyclic=1h", "A5-02-?? TMP C TMP TI:x sensor Temperature"]:
             with self.assertRaises(WrongTable, msg=line):
-                entity_row_of(line)
+                parsed_entity_row(line)
 
     def test_comments_and_blank_lines(self):
         table = table_of("# a comment\n\n  \nD5-00-01 CO - CO - binary_sensor Contact on=open off=closed\n# another\n")

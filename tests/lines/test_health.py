@@ -52,14 +52,13 @@ class HealthOfDevices(unittest.TestCase):
                              device("5", dbm="nan", SVC="2,4"))
         self.assertEqual(health[2:], (["0", "2"], ["0", "2"], None))
 
-    def test_the_page_has_the_same_limit_of_the_signal(self):
-        script = (ROOT / "contrib/cockpit/enogate/health.js").read_text("utf-8")
-        self.assertEqual(int(re.search(r"BAR_LIMITS = \[(-\d+),", script)[1]), WEAK_SIGNAL)
-
     def test_the_guide(self):
-        """It has the limits, and the profiles with a supply voltage."""
+        """It has the limits, also of a weak signal in another page, and the profiles with a supply voltage."""
         page = " ".join((ROOT / "docs/guide/health.md").read_text("utf-8").split())
         self.assertIn(f"with less than {WEAK_SIGNAL} dBm", page)
+        radio_page = (ROOT / "docs/guide/radio.md").read_text("utf-8")
+        self.assertIn(f"| less than {WEAK_SIGNAL} | 1 |", radio_page)
+        self.assertIn(f"with at least {WEAK_SIGNAL} dBm", radio_page)
         self.assertIn(f"its last reading `{SUPPLY_VOLTAGE}`, the supply voltage, is below {LOW_VOLTAGE} V", page)
         reporting = {row.profiles[:5] for row in TABLE.rows if row.reading == SUPPLY_VOLTAGE}
         self.assertEqual(set(re.findall("`(A5-..)`", re.search(r"\| has a low battery \|.*", page)[0].split("||")[0])),

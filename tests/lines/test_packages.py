@@ -5,7 +5,10 @@ import re
 import unittest
 
 CONTRIB = pathlib.Path(__file__).parents[2] / "contrib"
-# Of the bridge, other packages import a single module. Of the command, the building imports two.
+# Of the bridge, Modbus server and site import some modules, and other packages a single one. Of the command, the
+# building imports two, and Modbus server and site one.
+BRIDGE_MODULES_OF_SITE = ("bridge", "connection", "devices", "log", "main", "orders", "reconcile", "requests",
+                          "settings", "state", "store", "topics", "wake")
 ALLOWED_IMPORTS = {
     ("enogate_lines", "enogate_tools"), ("enogate_building", "enogate_tools"),
     ("enogate_building", "enogate_ctl.sheet"), ("enogate_building", "enogate_ctl.stops"),
@@ -14,6 +17,11 @@ ALLOWED_IMPORTS = {
     ("enogate_report", "enogate_ctl"), ("enogate_report", "enogate_lines"), ("enogate_report", "enogate_tools"),
     ("enogate_metrics", "enogate_ctl"), ("enogate_metrics", "enogate_lines"), ("enogate_metrics", "enogate_tools"),
     ("enogate_metrics", "enogate_mqtt.state"),
+    ("enogate_modbus", "enogate_ctl.sheet"), ("enogate_modbus", "enogate_lines"), ("enogate_modbus", "enogate_tools"),
+    *(("enogate_modbus", f"enogate_mqtt.{module}")
+      for module in ("connection", "log", "main", "orders", "settings", "state", "topics")),
+    ("enogate_site", "enogate_lines"), ("enogate_site", "enogate_tools"), ("enogate_site", "enogate_ctl.grammar"),
+    *(("enogate_site", f"enogate_mqtt.{module}") for module in BRIDGE_MODULES_OF_SITE),
 }
 
 
@@ -28,9 +36,10 @@ def imported_modules(path):
 
 
 def import_edge(package, module):
-    """A package and the package that it imports; of the bridge, and for the building of the command, the module."""
+    """A package and the package that it imports; of the bridge, and for some packages of the command, the module."""
     module_parts = module.split(".")
-    has_modules = module_parts[0] == "enogate_mqtt" or (package, module_parts[0]) == ("enogate_building", "enogate_ctl")
+    has_modules = module_parts[0] == "enogate_mqtt" or (
+        module_parts[0] == "enogate_ctl" and package in ("enogate_building", "enogate_modbus", "enogate_site"))
     return package, ".".join(module_parts[:2] if has_modules else module_parts[:1])
 
 

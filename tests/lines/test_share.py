@@ -13,6 +13,16 @@ from oracle import reasons  # noqa: E402
 from oracle.orders import MAX_VALUES, ORDERS  # noqa: E402
 from oracle.profiles import SUPPORTED_PROFILES, eep_text  # noqa: E402
 
+# The limits that pages state: the crate and the constant, and the text around the number in each page.
+LIMIT_TEXTS = (
+    ("learned_devices", "MAX_DEVICES", {"README.md": "| {:,} learned devices",
+                                        "docs/guide/output.md": "while {:,} other"}),
+    ("learned_devices", "MAX_LABEL", {"README.md": "labels of {} ASCII",
+                                      "docs/guide/orders.md": "has 1 to {} printable"}),
+    ("desk_orders", "MAX_LINE", {"docs/guide/orders.md": "A line may have {} bytes"}),
+    ("json_lines", "MAX_PACKET_LINE", {"docs/guide/operation.md": "up to {} bytes",
+                                       "contrib/enogate.default": "has up to {} bytes"}))
+
 
 def table(page, heading):
     """The rows of the table of the guide with this head, each with its cells."""
@@ -50,6 +60,23 @@ class GuideTables(unittest.TestCase):
                     kinds.add(share.device_kind(f"{first[:6]}{number:02X}"))
                     self.assertEqual(bool(share.device_kind(f"{first[:6]}{number:02X}")), supported == "yes", device)
         self.assertEqual(kinds, {"", *share.kinds_by_profile().values()})
+
+    def test_profiles_of_the_readme(self):
+        """It lists each profile, and says how many there are."""
+        row = re.search(r"^\| Devices \| (.*?) \[Which profile", (ROOT / "README.md").read_text(), re.MULTILINE)[1]
+        profiles, kind = [], ""
+        for new_kind, first, last in re.findall(r"(?:(\b\w\w-\w\w)|[ (])-(\w\w)\b(?: to -(\w\w))?", row):
+            kind = new_kind or kind
+            profiles += [f"{kind}-{number:02X}" for number in range(int(first, 16), int(last or first, 16) + 1)]
+        self.assertEqual(sorted({*profiles}), sorted(share.kinds_by_profile()))
+        self.assertEqual(re.search(r"one of (\d+) profiles", row)[1], str(len({*profiles})))
+
+    def test_limits_of_pages(self):
+        for crate, name, text_by_page in LIMIT_TEXTS:
+            source = (ROOT / "crates" / crate / "src/limits.rt").read_text(encoding="utf-8")
+            limit = int(re.search(rf"const {name}: usize = (\d+);", source)[1])
+            for page, text in text_by_page.items():
+                self.assertIn(text.format(limit), (ROOT / page).read_text(encoding="utf-8"), page)
 
     def test_forms_of_orders(self):
         forms = [form for order in share.order_forms().values() for form, _ in order]

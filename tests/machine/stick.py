@@ -16,12 +16,12 @@ class SimulatedStick:
     given to send."""
 
     def __init__(self, path, base=BASE_ID):
-        self.path, self.base, self.sent_telegrams = path, base, []
+        self.socket_path, self.base, self.sent_telegrams = path, base, []
         self.socket, self.unparsed_bytes = None, b""
 
     def plug(self):
         self.socket = socket.socket(socket.AF_UNIX)
-        self.socket.connect(str(self.path))
+        self.socket.connect(str(self.socket_path))
         threading.Thread(target=self.answer_packets, args=(self.socket,), daemon=True).start()
 
     def unplug(self):

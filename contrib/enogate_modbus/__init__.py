@@ -1,0 +1,1 @@
+"""The Modbus TCP server for the readings of a gateway that its bridge publishes."""

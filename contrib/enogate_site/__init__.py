@@ -1,0 +1,1 @@
+"""Several gateways at one MQTT broker as one."""
