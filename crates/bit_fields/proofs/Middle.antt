@@ -30,27 +30,19 @@ keeps xs ys offset len value hx hy l within fits e =
     let below = length xs - (offset + len) in
     let kx = cut xs offset len hx within in
     let ky = cut ys offset len hy (rw l within) in
-    let nx : number xs ≡ (number (take offset xs) * 2 ^ len + number (take len (drop offset xs))) * 2 ^ below + number
-    (drop (offset + len) xs) = number-cut xs offset len kx in
-    let ny : number ys ≡ (number (take offset ys) * 2 ^ len + number (take len (drop offset ys))) * 2 ^ below + number
-    (drop (offset + len) ys)
-    = number-cut ys offset len ky
-    ∙ ap (λ k. (number (take offset ys) * 2 ^ len + number (take len (drop offset ys))) * 2 ^
-    (k - (offset + len)) + number (drop (offset + len) ys)) l in
+    let back_x = back-below xs offset len kx in
     let back_y : number (drop (offset + len) ys) < 2 ^ below = rw l at (back-below ys offset len ky) in
-    let back_x : number (drop (offset + len) xs) < 2 ^ below = back-below xs offset len kx in
     let low : number xs % 2 ^ below ≡ number (drop (offset + len) xs) =
-    ap (λ n. n % 2 ^ below) nx ∙ mod_low _ below _ back_x in
+    rw (number-cut xs offset len kx) (mod_low _ below _ back_x) in
     let high : number xs / 2 ^ (len + below) ≡ number (take offset xs) =
-    ap (λ n. number xs / 2 ^ n) (add_comm len below) ∙ (sym (shr-shr (number xs) below len)
-    ∙ (ap (λ n. n / 2 ^ below / 2 ^ len) nx
-    ∙ (ap (λ n. n / 2 ^ len) (shr_high _ below _ back_x) ∙ shr_high _ len _ (middle-below xs offset len kx)))) in
-    let e' : (number (take offset ys) * 2 ^ len + number (take len (drop offset ys))) * 2 ^ below + number
-    (drop (offset + len) ys)
-    ≡ (number (take offset xs) * 2 ^ len + value) * 2 ^ below + number (drop (offset + len) xs)
-    = sym ny ∙ (e ∙ (ap (λ n. (n * 2 ^ len + value) * 2 ^ below + number xs % 2 ^ below) high
-    ∙ ap (λ n. (number (take offset xs) * 2 ^ len + value) * 2 ^ below + n) low)) in
-    let outer = same_from_place _ _ _ _ (2 ^ below) back_y back_x e' in
+    rw (
+      add_comm len below,
+      ← shr-shr (number xs) below len,
+      number-cut xs offset len kx,
+      shr_high _ below _ back_x,
+    ) (shr_high _ len _ (middle-below xs offset len kx)) in
+    let sum = sym (rw l at (number-cut ys offset len ky)) ∙ (rw (high, low) at e) in
+    let outer = same_from_place _ _ _ _ (2 ^ below) back_y back_x sum in
     let inner = same_from_place _ _ _ _ (2 ^ len) (middle-below ys offset len ky) fits outer.0 in
     record {
       field_has_value = inner.1;
@@ -61,60 +53,35 @@ keeps xs ys offset len value hx hy l within fits e =
     }
 
 -- the same inside a longer list of bits
-pub keeps-inside : (f p p' b : List ℕ) (offset len value : ℕ) → length p' ≡ length p → offset + len ≤ length p
-    → Keeps p offset len value p' →
-    Keeps (f ++ (p ++ b)) (length f + offset) len value (f ++ (p' ++ b))
-keeps-inside f p p' b offset len value l within h =
-    let short : offset ≤ length p = omega arith in
-    let short' : offset ≤ length p' = omega arith in
-    let rest : len ≤ length (drop offset p') = omega (arith, length-drop offset p') in
-    let sum : length f + offset + len ≡ length f + (offset + len) = omega arith in
-    record {
-      field_has_value =
-          ap number (ap (take len) (drop-append-add f (p' ++ b) offset ∙ drop-append-le offset p' b short')
-          ∙ take-append-le len (drop offset p') b rest) ∙ h.field_has_value;
-      bits_before_kept =
-          take-append-add f (p' ++ b) offset
-          ∙ (ap (λ l. f ++ l) (take-append-le offset p' b short'
-          ∙ (h.bits_before_kept ∙ sym (take-append-le offset p b short)))
-          ∙ sym (take-append-add f (p ++ b) offset));
-      bits_after_kept =
-          rw sum (drop-append-add f (p' ++ b) (offset + len)
-          ∙ (drop-append-le (offset + len) p' b (omega arith)
-          ∙ (ap (λ l. l ++ b) h.bits_after_kept
-          ∙ (sym (drop-append-le (offset + len) p b within) ∙ sym (drop-append-add f (p ++ b) (offset + len))))));
-    }
+pub keeps-inside : (front old new back : List ℕ) (offset len value : ℕ) → length new ≡ length old
+    → offset + len ≤ length old → Keeps old offset len value new →
+    Keeps (front ++ (old ++ back)) (length front + offset) len value (front ++ (new ++ back))
+keeps-inside front old new back offset len value same_length within h =
+    grind (arith, length-drop, number, drop-append-add, drop-append-le, take-append-le, take-append-add)
 
--- the number with a new middle, by shifts and masks
-number-with_middle-by_shifts : (n below len value : ℕ) → value < 2 ^ len →
-    bit_or (n / 2 ^ (below + len) * 2 ^ (below + len)) (bit_or (value * 2 ^ below) (bit_and n (2 ^ below - 1)))
-    ≡ number-with_middle n below len value
-unfolding number-with_middle
-number-with_middle-by_shifts n below len value fits =
-    let low : n % 2 ^ below < 2 ^ below = mod_below n (2 ^ below) (pow_pos below) in
-    let p : 2 ^ (below + len) ≡ 2 ^ len * 2 ^ below = ap (λ k. 2 ^ k) (add_comm below len) ∙ pow-add 2 len below in
-    let inner : value * 2 ^ below + n % 2 ^ below < 2 ^ (below + len) =
-    rw p (omega (arith, mul-add-lt value (2 ^ below) (n % 2 ^ below) (2 ^ len) fits low)) in
-    rw (
-      and_mask,
-      or_shifted value below (n % 2 ^ below) low,
-      or_shifted (n / 2 ^ (below + len)) (below + len) (value * 2 ^ below + n % 2 ^ below) inner,
-    )
-    (ap (λ k. n / 2 ^ k * 2 ^ (below + len) + (value * 2 ^ below + n % 2 ^ below)) (add_comm below len)
-    ∙ (ap (λ q. n / 2 ^ (len + below) * q + (value * 2 ^ below + n % 2 ^ below)) p ∙ omega arith))
-
--- the same in 64 bits, with the shifts of machine numbers
+-- the number with a new middle, by shifts and masks of 64-bit numbers
 pub shifted_and_masked : (wide below len value : ℕ) → wide < 2 ^ 64 → below + len < 64 → value < 2 ^ len →
     bit_or (wide / 2 ^ (below + len) * 2 ^ (below + len) % 2 ^ 64)
     (bit_or (value * 2 ^ below % 2 ^ 64) (bit_and wide (1 * 2 ^ below % 2 ^ 64 - 1)))
     ≡ number-with_middle wide below len value
+unfolding number-with_middle
 shifted_and_masked wide below len value small narrow fits =
-    let cleared : wide / 2 ^ (below + len) * 2 ^ (below + len) < 2 ^ 64 = omega (arith, shr_split wide (below + len)) in
-    let high : wide / 2 ^ (below + len) * 2 ^ (below + len) % 2 ^ 64 ≡ wide / 2 ^ (below + len) * 2 ^ (below + len) =
-    mod-eq_of_lt cleared in
-    let new : value * 2 ^ below % 2 ^ 64 ≡ value * 2 ^ below = shl_whole value len below 64 fits (omega arith) in
-    let mask : 1 * 2 ^ below % 2 ^ 64 ≡ 2 ^ below = one_shl below 64 (omega arith) in
-    rw (high, new, mask) (number-with_middle-by_shifts wide below len value fits)
+    let high = wide / 2 ^ (below + len) in
+    let low : wide % 2 ^ below < 2 ^ below = mod_below wide (2 ^ below) (pow_pos below) in
+    let cleared : high * 2 ^ (below + len) < 2 ^ 64 = omega (arith, shr_split wide (below + len)) in
+    let power : 2 ^ (below + len) ≡ 2 ^ len * 2 ^ below = rw add_comm (pow-add 2 len below) in
+    let inner : value * 2 ^ below + wide % 2 ^ below < 2 ^ (below + len) =
+    rw power (omega (arith, mul-add-lt value (2 ^ below) (wide % 2 ^ below) (2 ^ len) fits low)) in
+    rw (
+      mod-eq_of_lt cleared,
+      shl_whole value len below 64 fits (omega arith),
+      one_shl below 64 (omega arith),
+      and_mask,
+      or_shifted value below (wide % 2 ^ below) low,
+      or_shifted high (below + len) (value * 2 ^ below + wide % 2 ^ below) inner,
+      add_comm below len,
+      pow-add 2 len below,
+    ) (omega arith)
 
 -- a new middle keeps a number in its range
 pub number-with_middle-below : (wide rest len below value : ℕ) → wide < 2 ^ (rest + (len + below)) → value < 2 ^ len →

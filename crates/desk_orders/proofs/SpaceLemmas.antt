@@ -5,9 +5,11 @@ use Rattle.std.proofs.Common.{◌==◌, ◌++◌, ◌⊎◌, inl, inr, Ok, arith
 use Rattle.std.specs.Fmt.{decimal}
 use Rattle.std.specs.List.{All, AllByRecursion, AllZip, join_with_byte, list_all}
 use Rattle.std.specs.Str.Parse.{AllDigits}
-use Rattle.std.proofs.lemmas.Bool.{and_parts, eqb-true, ne_eqb}
+use Rattle.std.proofs.lemmas.Bool.{and_parts, ne_eqb}
 use Rattle.std.proofs.lemmas.Fmt.{decimal_is_IsNumeral}
 use Rattle.std.proofs.lemmas.Str.Parse.{digit_from_value}
+use Rattle.std.proofs.lemmas.Bool.Decides.{nat_tests}
+use Rattle.std.proofs.lemmas.List.Folds.{list_all_at}
 use Rattle.std.proofs.lemmas.List.Elements.{All-append, All-cons, All-nil}
 use Rattle.std.proofs.lemmas.List.Splits.{slice_split_none, slice_split_at}
 use Rattle.hex.specs.Hex.{decode_of, is_hex_digit}
@@ -28,33 +30,21 @@ LacksSpace text = All IsOther text
 
 -- a text whose bytes are compared one by one, which computes
 lacks : (text : List ℕ) → list_all (λ b. not (b == 32)) text ≡ true → LacksSpace text
-lacks [] is = All-nil IsOther
-lacks (b ∷ text) is =
-    let parts = and_parts (not (b == 32)) (list_all (λ c. not (c == 32)) text) is in
-    All-cons IsOther b text (other (b == 32) parts.0) (lacks text parts.1)
-  where
-    other : (t : Bool) → not t ≡ true → t ≡ false
-    other false e = refl
-    other true e = absurd cc
+lacks text is = λ k d below. grind (arith, nat_tests, list_all_at (λ b. not (b == 32)) text k d)
 
-digit-other : (c : ℕ) (t : Bool) → (c == 32) ≡ t → is_hex_digit c ≡ true → (c == 32) ≡ false
-digit-other c false e is = e
-digit-other c true e is =
-    let same : c ≡ 32 = eqb-true c 32 e in
-    let no : is_hex_digit 32 ≡ true = subst (λ d. is_hex_digit d ≡ true) same is in absurd cc
+digit-other : (c : ℕ) → is_hex_digit c ≡ true → IsOther c
+digit-other c is = grind (arith, nat_tests)
 
 digits-lack : (digits bytes : List ℕ) → decode_of digits ≡ Ok bytes → LacksSpace digits
-digits-lack digits bytes e = λ k d below. digit-other _ _ refl ((decode_of-ok digits bytes e).1 k d below)
+digits-lack digits bytes e = λ k d below. digit-other _ ((decode_of-ok digits bytes e).1 k d below)
 
 profile-lacks : (text : List ℕ) (eep : Eep) → SpellsEep text eep → LacksSpace text
 profile-lacks text eep spells =
-    let dash = lacks (codes "-") refl in
-    let rorg = digits-lack spells.rorg _ spells.is_rorg in
-    let func = digits-lack spells.func _ spells.is_func in
-    let typ = digits-lack spells.typ _ spells.is_typ in
-    subst LacksSpace (sym spells.whole)
-    (All-append IsOther _ _ (All-append IsOther _ _ (All-append IsOther _ _ (All-append IsOther _ _ rorg dash) func)
-    dash) typ)
+    let dash : LacksSpace (codes "-") = lacks (codes "-") refl in
+    let rorg : LacksSpace spells.rorg = digits-lack spells.rorg _ spells.is_rorg in
+    let func : LacksSpace spells.func = digits-lack spells.func _ spells.is_func in
+    let typ : LacksSpace spells.typ = digits-lack spells.typ _ spells.is_typ in
+    subst LacksSpace (sym spells.whole) (search (All-append IsOther))
 
 decimals-lack : (digits : List ℕ) → AllDigits 10 digits → LacksSpace digits
 decimals-lack [] are = All-nil IsOther
@@ -131,13 +121,8 @@ id-lacks digits id (bytes, four, decoded, is) = digits-lack digits bytes decoded
 -- the words of a line that begins with `label` and an ID: then those of the text, if there is one
 pub label-apart : (digits text : List ℕ) → LacksSpace digits
     → words (codes "label" ++ 32 ∷ (digits ++ 32 ∷ text)) ≡ codes "label" ∷ digits ∷ words text
-label-apart digits text lack =
-    slice_split_at (λ b. b == 32) (codes "label") 32 (digits ++ 32 ∷ text) (lacks (codes "label") refl) refl
-    ∙ ap (λ (rest : List (List ℕ)). codes "label" ∷ rest)
-    (slice_split_at (λ b. b == 32) digits 32 text lack refl)
+label-apart digits text lack = grind (arith, slice_split_at, lacks)
 
 pub label-alone : (digits : List ℕ) → LacksSpace digits
     → words (codes "label" ++ 32 ∷ digits) ≡ codes "label" ∷ digits ∷ []
-label-alone digits lack =
-    slice_split_at (λ b. b == 32) (codes "label") 32 digits (lacks (codes "label") refl) refl
-    ∙ ap (λ (rest : List (List ℕ)). codes "label" ∷ rest) (slice_split_none (λ b. b == 32) digits lack)
+label-alone digits lack = grind (arith, slice_split_at, lacks, slice_split_none)

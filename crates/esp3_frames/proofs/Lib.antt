@@ -1,11 +1,9 @@
 pub mod CheckLemmas
 pub mod ZerosLemmas
 pub mod CheckVectors
-pub mod PacketLemmas
-pub mod HeaderLemmas
-pub mod FrontLemmas
-pub mod FramingLemmas
 pub mod FrontByHeader
+pub mod FrontLemmas
 pub mod PacketsAndRestByFront
+pub mod FramingLemmas
 pub mod ForCallers
 pub mod WorkedStreams

@@ -1,4 +1,4 @@
-use Rattle.std.proofs.Common.{◌≡◌, ◌+◌, ◌-◌, ◌*◌, ◌/◌, ◌%◌, ◌^◌, ◌<◌, take, length, arith, lit<, sym, ap, ◌∙◌}
+use Rattle.std.proofs.Common.{◌≡◌, ◌+◌, ◌-◌, ◌*◌, ◌/◌, ◌%◌, ◌^◌, ◌<◌, take, length, arith, lit<, sym}
 use Rattle.std.proofs.lemmas.Nat.{and_mask, shr-shr, shr_split, mod_below}
 use Rattle.std.proofs.Math.Nat.{div-eq_of_lt}
 use Rattle.std.proofs.lemmas.List.{take_more_set}
@@ -18,16 +18,15 @@ loop-i-preserved c =
     let wide = c.args.wide in
     let below = 8 * (n - 1 - i) in
     let b = wide / 2 ^ below % 2 ^ 8 in
-    let e : 8 * (n - i) ≡ below + 8 = omega arith in
-    let e' : 8 * (n - (i + 1)) ≡ below = omega arith in
-    let high : wide / 2 ^ (8 * (n - i)) ≡ wide / 2 ^ below / 2 ^ 8 =
-    ap (λ k. wide / 2 ^ k) e ∙ sym (shr-shr wide below 8) in
-    let step : number (bits (take i c.loop-i.bytes)) * 256 + b ≡ wide / 2 ^ below =
-    ap (λ k. k * 256 + b) (c.loop-i.invariant ∙ high) ∙ shr_split (wide / 2 ^ below) 8 in
+    let before : 8 * (n - i) ≡ below + 8 = omega arith in
+    let after : 8 * (n - (i + 1)) ≡ below = omega arith in
     let small : b < 256 = mod_below (wide / 2 ^ below) 256 (lit< tt) in
     rw (
       and_mask (wide / 2 ^ below) 8,
       take_more_set c.loop-i.bytes i b (omega arith),
       number-bits-push (take i c.loop-i.bytes) b small,
-      e',
-    ) step
+      c.loop-i.invariant,
+      before,
+      after,
+      ← shr-shr wide below 8,
+    ) (shr_split (wide / 2 ^ below) 8)

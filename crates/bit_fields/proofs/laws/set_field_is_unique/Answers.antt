@@ -1,5 +1,5 @@
-use Rattle.bit_fields.proofs.FieldLemmas.{one}
+use Rattle.bit_fields.proofs.FieldLemmas.{field_set-unique}
 use Rattle.bit_fields.proofs.laws.set_field_is_unique.Goals as goal
 
 pub returns : goal.returns
-returns c = one
+returns c = field_set-unique

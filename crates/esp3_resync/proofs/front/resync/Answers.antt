@@ -1,10 +1,10 @@
-use Rattle.std.proofs.Common.{◌∙◌}
+use Rattle.std.proofs.Common.{◌∙◌, arith}
 use Rattle.esp3_frames.proofs.ForCallers.{frames-never}
 use Rattle.esp3_resync.proofs.PacketsAndRestLemmas.{frames_at_sync}
 use Rattle.esp3_resync.proofs.front.resync.Goals as goal
 
 pub skip_to_next_sync-requires : goal.skip_to_next_sync-requires
-skip_to_next_sync-requires c = (frames-never c.loop-front.window c.in-None.ensures).0
+skip_to_next_sync-requires c = grind (arith, frames-never)
 
 pub loop-front-smaller : goal.loop-front-smaller
 loop-front-smaller c =
