@@ -1,6 +1,6 @@
 -- Hexadecimal digits, and so the texts of IDs, profiles and bytes, are ASCII and need no escape in a JSON string.
-use Rattle.std.proofs.Common.{◌≡◌, ℕ, zero, suc, ◌<◌, ◌/◌, ◌%◌, ◌++◌, List, [], ◌∷◌, Bool, true, codes}
-use Rattle.std.proofs.Common.{◌&&◌, slice_index, length, take, get_or, inl, inr, IsAscii, refl, ap, ap₂, ◌∙◌, arith}
+use Rattle.std.proofs.Common.{◌≡◌, ℕ, zero, suc, ◌<◌, ◌/◌, ◌%◌, ◌++◌, List, [], ◌∷◌, Bool, true, codes, ◌&&◌}
+use Rattle.std.proofs.Common.{slice_index, length, take, get_or, inl, inr, IsAscii, refl, ap, ap₂, ◌∙◌, arith}
 use Rattle.std.specs.List.{AllByRecursion}
 use Rattle.std.specs.Prelude.{nat_lt}
 use Rattle.std.proofs.lemmas.Bool.{and_parts, cases_lt, ltb-true}
@@ -29,22 +29,18 @@ holds_below-at test (suc n) k h below =
     let parts = and_parts (test n) (holds_below test n) h in
     elim (cases_lt k n) [
       | inl lower ↦ holds_below-at test n k parts.1 lower
-      | inr top ↦
-          let e : k ≡ n = omega arith in
-          rw e parts.0
+      | inr top ↦ let last : k ≡ n = omega arith in rw last parts.0
     ]
 
--- a digit is between the quotation mark and the backslash
+-- a digit is after the comma and the slash, and before the backslash
 abbrev is_between : ℕ → Bool
-is_between digit = nat_lt 34 (slice_index upper_digits digit) && nat_lt (slice_index upper_digits digit) 92
+is_between digit = nat_lt 47 (slice_index upper_digits digit) && nat_lt (slice_index upper_digits digit) 92
 
-between : (digit : ℕ) → digit < 16 → (34 < slice_index upper_digits digit) × (slice_index upper_digits digit < 92)
+pub between : (digit : ℕ) → digit < 16 → (47 < slice_index upper_digits digit) × (slice_index upper_digits digit < 92)
 between digit below =
-    let parts = and_parts (nat_lt 34 (slice_index upper_digits digit)) (nat_lt (slice_index upper_digits digit) 92)
-    (holds_below-at is_between 16 digit refl below) in (
-      ltb-true 34 (slice_index upper_digits digit) parts.0,
-      ltb-true (slice_index upper_digits digit) 92 parts.1,
-    )
+    let (above, under) = and_parts (nat_lt 47 (slice_index upper_digits digit)) _
+    (holds_below-at is_between 16 digit refl below) in
+    (ltb-true 47 (slice_index upper_digits digit) above, ltb-true (slice_index upper_digits digit) 92 under)
 
 plain-digit : (digit : ℕ) → digit < 16
     → escape_byte (slice_index upper_digits digit) ≡ slice_index upper_digits digit ∷ []
@@ -58,12 +54,9 @@ pub plain_bytes : (bytes : List ℕ) → IsBytes bytes → NeedsNoEscape (encode
 unfolding encode_with
 plain_bytes [] h = refl
 plain_bytes (byte ∷ rest) h =
-    let below : byte < 256 = h 0 in
-    rw (
-      plain-digit (byte / 16) (omega arith),
-      plain-digit (byte % 16) (omega arith),
-      plain_bytes rest (λ i. h (suc i)),
-    ) refl
+    let high = plain-digit (byte / 16) (omega (arith, h 0)) in
+    let low = plain-digit (byte % 16) (omega arith) in
+    rw (high, low, plain_bytes rest (λ i. h (suc i))) refl
 
 -- the digits of one more byte
 pub encode_upper-more : (bytes : List ℕ) (i : ℕ) → IsBytes bytes → i < length bytes
@@ -71,16 +64,14 @@ pub encode_upper-more : (bytes : List ℕ) (i : ℕ) → IsBytes bytes → i < l
 unfolding encode_with
 encode_upper-more [] i h below = absurd (omega arith)
 encode_upper-more (byte ∷ rest) zero h below =
-    let fits : byte % 256 ≡ byte = omega (arith, h 0) in
-    rw fits refl
+    let fits : byte % 256 ≡ byte = omega (arith, h 0) in rw fits refl
 encode_upper-more (byte ∷ rest) (suc i) h below =
     ap (λ (digits : List ℕ). slice_index upper_digits (byte / 16) ∷ slice_index upper_digits (byte % 16) ∷ digits)
     (encode_upper-more rest i (λ k. h (suc k)) (omega arith))
 
 ascii-upper_digits : IsAscii upper_digits
-ascii-upper_digits = IsAscii-from_reads upper_digits 16 (omega arith) (λ k below.
-    let lies = between k below in
-    omega arith)
+ascii-upper_digits =
+    IsAscii-from_reads upper_digits 16 (omega arith) (λ digit below. let range = between digit below in omega arith)
 
 pub ascii-encode_upper : (bytes : List ℕ) → IsAscii (encode_upper bytes)
 ascii-encode_upper bytes = IsAscii-encode_with upper_digits bytes ascii-upper_digits
@@ -109,9 +100,6 @@ plain-append a b ha hb = flat_map-append escape_byte a b ∙ ap₂ (λ x y. x ++
 pub byte_bytes : (byte : ℕ) → IsBytes (to_be_bytes w8 byte)
 byte_bytes byte = all_below 256 (to_be_bytes w8 byte) (omega arith) (omega arith, tt)
 
-plain-byte : (byte : ℕ) → NeedsNoEscape (byte_text byte)
-plain-byte byte = plain_bytes (to_be_bytes w8 byte) (byte_bytes byte)
-
 pub id_bytes : (id : ℕ) → IsBytes (to_be_bytes w32 id)
 id_bytes id = all_below 256 (to_be_bytes w32 id) (omega arith)
     (omega arith, (omega arith, (omega arith, (omega arith, tt))))
@@ -119,31 +107,22 @@ id_bytes id = all_below 256 (to_be_bytes w32 id) (omega arith)
 pub plain-id : (id : ℕ) → NeedsNoEscape (id_text id)
 plain-id id = plain_bytes (to_be_bytes w32 id) (id_bytes id)
 
-plain-dash : NeedsNoEscape (codes "-")
-unfolding escape_byte
-plain-dash = refl
-
-plain-as : NeedsNoEscape (codes "as ")
-unfolding escape_byte
-plain-as = refl
-
 pub plain-eep : (eep : Eep) → NeedsNoEscape (eep_text eep)
-plain-eep eep = on_eep NeedsNoEscape plain-append plain-dash plain-byte eep
+unfolding escape_byte
+plain-eep eep = on_eep NeedsNoEscape plain-append refl (λ byte. plain_bytes (to_be_bytes w8 byte) (byte_bytes byte)) eep
 
 pub plain-learn_as_text : (eep : Eep) → NeedsNoEscape (learn_as_text eep)
-plain-learn_as_text eep = plain-append (codes "as ") (eep_text eep) plain-as (plain-eep eep)
-
-ascii-dash : IsAscii (codes "-")
-ascii-dash = all_below 128 (codes "-") (omega arith) (omega arith, tt)
-
-ascii-as : IsAscii (codes "as ")
-ascii-as = all_below 128 (codes "as ") (omega arith) (omega arith, (omega arith, (omega arith, tt)))
+unfolding escape_byte
+plain-learn_as_text eep = plain-append (codes "as ") (eep_text eep) refl (plain-eep eep)
 
 pub ascii-byte : (byte : ℕ) → IsAscii (byte_text byte)
 ascii-byte byte = ascii-encode_upper _
 
 pub ascii-eep : (eep : Eep) → IsAscii (eep_text eep)
-ascii-eep eep = on_eep IsAscii IsAscii-append ascii-dash ascii-byte eep
+ascii-eep eep =
+    on_eep IsAscii IsAscii-append (all_below 128 (codes "-") (omega arith) (omega arith, tt)) ascii-byte eep
 
 pub ascii-learn_as_text : (eep : Eep) → IsAscii (learn_as_text eep)
-ascii-learn_as_text eep = IsAscii-append (codes "as ") (eep_text eep) ascii-as (ascii-eep eep)
+ascii-learn_as_text eep =
+    let word = all_below 128 (codes "as ") (omega arith) (omega arith, (omega arith, (omega arith, tt))) in
+    IsAscii-append (codes "as ") (eep_text eep) word (ascii-eep eep)

@@ -1,7 +1,7 @@
 -- The JSON values of the lines have the texts of the lines, and contain no float; so serde_json writes the line's text
 -- for what a line sends.
-use Rattle.std.proofs.Common.{◌≡◌, ℕ, zero, suc, ℤ, pos, negsuc, ◌-ℤ◌, List, [], ◌∷◌, ◌++◌, map, codes, decimal, true}
-use Rattle.std.proofs.Common.{false, slice_get, Option, Some, None, refl, sym, ap, ap₂, ◌∙◌, append_assoc}
+use Rattle.std.proofs.Common.{◌≡◌, ℕ, ℤ, pos, negsuc, ◌-ℤ◌, List, [], ◌∷◌, ◌++◌, map, codes, decimal, true, false}
+use Rattle.std.proofs.Common.{slice_get, Option, Some, None, refl, rules, sym, ap, ap₂, ◌∙◌, append_assoc}
 use Rattle.std.specs.Fmt.{signed_decimal}
 use Rattle.std.specs.List.{AllByRecursion, join_by, flat_map}
 use Rattle.json.specs.Print.{quoted}
@@ -18,17 +18,15 @@ use Rattle.learned_devices.specs.declared.Device.{Device}
 use Rattle.teach_in.specs.declared.mode.Mode.{Mode}
 use Rattle.teach_in.specs.declared.mode.Mode.TheVariants.{Closed, Learn, LearnAnswer, LearnAs}
 use Rattle.teach_in.specs.declared.outcome.Outcome.{Outcome}
-use Rattle.teach_in.specs.declared.outcome.Outcome.TheVariants.{Accepted, Deleted, Unsupported, Full, General}
-use Rattle.teach_in.specs.declared.outcome.Outcome.TheVariants.{NoProfile}
 use Rattle.gateway_state.specs.declared.counts.Counts.{Counts}
-use Rattle.json_lines.specs.Lines.{TeachLine, ModuleResponse, text, text_or_null, in_quotes, member_text, object_text}
-use Rattle.json_lines.specs.Lines.{Teach, DeviceLine, ListEnd, StatusLine, ResponseLine}
-use Rattle.json_lines.specs.Lines.{eep_string, outcome_word, mode_word, return_code_names}
+use Rattle.json_lines.specs.Lines.{DeskLine, TeachLine, ModuleResponse, text, text_or_null, in_quotes, member_text}
+use Rattle.json_lines.specs.Lines.{object_text, Teach, DeviceLine, ListEnd, StatusLine, ResponseLine, eep_string}
+use Rattle.json_lines.specs.Lines.{outcome_word, mode_word, return_code_names, ReadingLine, Reading, dbm_text}
+use Rattle.json_lines.specs.Lines.{reading_text, entry_object_text}
 use Rattle.json_lines.specs.private.LineData.{NeedsNoEscape, IsLineOf, value_or_null as data_or_null, members}
 use Rattle.json_lines.specs.private.LineData.{object_of, number_data, profile_data, teach_members, device_members}
 use Rattle.json_lines.specs.private.LineData.{list_end_members, status_members, response_members, dbm_data}
 use Rattle.json_lines.specs.private.LineData.{named_members, named_data, entry_data, entries_data, reading_members}
-use Rattle.json_lines.specs.Lines.{ReadingLine, Reading, dbm_text, reading_text, entry_object_text}
 use Rattle.json_lines.proofs.HexTexts.{plain-id, plain-eep, plain-learn_as_text, plain_bytes}
 
 -- ---- an object
@@ -41,36 +39,39 @@ abbrev ArePlain : List (List ℕ × Data) → Type 0
 ArePlain ms = AllByRecursion (λ m. NeedsNoEscape m.0) ms
 
 -- a member, as the writer and as the definition group it
-grouped : (name text rest : List ℕ) → NeedsNoEscape name
+quoted-member_text : (name text rest : List ℕ) → NeedsNoEscape name
     → quoted name ++ 58 ∷ (text ++ rest) ≡ member_text (name, text) ++ rest
-grouped name text rest plain =
+quoted-member_text name text rest plain =
     let regrouped = ap (λ (t : List ℕ). t ++ rest) (append_assoc (in_quotes name) (codes ":") text)
     ∙ append_assoc (in_quotes name) (codes ":" ++ text) rest in
     rw plain (sym regrouped)
 
 -- the members after the first, each with a comma before it
-members_behind : (ms : List (List ℕ × Data)) → ArePlain ms
+members-after_first : (ms : List (List ℕ × Data)) → ArePlain ms
     → members_text true (members ms) ≡ flat_map (λ m. codes "," ++ member_text m) (named_texts ms) ++ codes "}"
-members_behind [] plain = refl
-members_behind (m ∷ ms) plain =
-    ap (λ (rest : List ℕ). codes "," ++ (quoted m.0 ++ 58 ∷ (compact_text m.1 ++ rest))) (members_behind ms plain.1)
-    ∙ ap (λ (text : List ℕ). codes "," ++ text) (grouped m.0 (compact_text m.1) _ plain.0)
+members-after_first [] plain = refl
+members-after_first (m ∷ ms) plain =
+    ap (λ (rest : List ℕ). codes "," ++ (quoted m.0 ++ 58 ∷ (compact_text m.1 ++ rest)))
+    (members-after_first ms plain.1)
+    ∙ ap (λ (text : List ℕ). codes "," ++ text) (quoted-member_text m.0 (compact_text m.1) _ plain.0)
     ∙ sym (append_assoc (codes "," ++ member_text (m.0, compact_text m.1)) _ _)
 
 -- an object has the text of its members
 object_written : (ms : List (List ℕ × Data)) → ArePlain ms → compact_text (object_of ms) ≡ object_text (named_texts ms)
 object_written [] plain = refl
 object_written (m ∷ ms) plain =
-    ap (λ (rest : List ℕ). codes "{" ++ (quoted m.0 ++ 58 ∷ (compact_text m.1 ++ rest))) (members_behind ms plain.1)
-    ∙ ap (λ (text : List ℕ). codes "{" ++ text) (grouped m.0 (compact_text m.1) _ plain.0)
+    ap (λ (rest : List ℕ). codes "{" ++ (quoted m.0 ++ 58 ∷ (compact_text m.1 ++ rest)))
+    (members-after_first ms plain.1)
+    ∙ ap (λ (text : List ℕ). codes "{" ++ text) (quoted-member_text m.0 (compact_text m.1) _ plain.0)
     ∙ ap (λ (text : List ℕ). codes "{" ++ text) (sym (append_assoc (member_text (m.0, compact_text m.1)) _ _))
 
--- the line of what an object sends
-line_written : (ms : List (List ℕ × Data)) (line : List ℕ) → ArePlain ms → has_float (object_of ms) ≡ false
-    → IsLineOf (SendsValue (object_of ms)) line → line ≡ object_text (named_texts ms) ++ codes "\n"
-line_written ms line plain whole sent =
+-- the line of what an object sends, if its members have the texts of this line
+line_written : (ms : List (List ℕ × Data)) (line : DeskLine) (bytes : List ℕ) → ArePlain ms
+    → has_float (object_of ms) ≡ false → object_text (named_texts ms) ++ codes "\n" ≡ text line
+    → IsLineOf (SendsValue (object_of ms)) bytes → bytes ≡ text line
+line_written ms line bytes plain whole same sent =
     let made = text_of_value (object_of ms) sent.log sent.text sent.log_written sent.made whole in
-    sent.ends ∙ ap (λ (text : List ℕ). text ++ codes "\n") (made ∙ object_written ms plain)
+    sent.ends ∙ ap (λ (text : List ℕ). text ++ codes "\n") (made ∙ object_written ms plain) ∙ same
 
 -- ---- the parts of the lines
 
@@ -106,11 +107,8 @@ text-maker = text-or_null number_data decimal (λ maker. refl)
 no_float-maker : (maker : Option ℕ) → has_float (data_or_null number_data maker) ≡ false
 no_float-maker = no_float-or_null number_data (λ maker. refl)
 
-text-profile : (eep : Eep) → compact_text (profile_data eep) ≡ eep_string eep
-text-profile eep = ap in_quotes (plain-eep eep)
-
 text-known_profile : (eep : Option Eep) → compact_text (data_or_null profile_data eep) ≡ text_or_null eep_string eep
-text-known_profile = text-or_null profile_data eep_string text-profile
+text-known_profile = text-or_null profile_data eep_string (λ eep. ap in_quotes (plain-eep eep))
 
 no_float-known_profile : (eep : Option Eep) → has_float (data_or_null profile_data eep) ≡ false
 no_float-known_profile = no_float-or_null profile_data (λ eep. refl)
@@ -118,12 +116,7 @@ no_float-known_profile = no_float-or_null profile_data (λ eep. refl)
 -- the words need no escape
 plain-outcome : (outcome : Outcome) → NeedsNoEscape (outcome_word outcome)
 unfolding serde_json_on_literals
-plain-outcome Accepted = refl
-plain-outcome Deleted = refl
-plain-outcome Unsupported = refl
-plain-outcome Full = refl
-plain-outcome General = refl
-plain-outcome NoProfile = refl
+plain-outcome outcome = search rules
 
 plain-mode : (mode : Mode) → NeedsNoEscape (mode_word mode)
 unfolding serde_json_on_literals
@@ -136,24 +129,15 @@ text-name : (code : ℕ)
     → compact_text (data_or_null string (slice_get return_code_names code)) ≡ text_or_null in_quotes
     (slice_get return_code_names code)
 unfolding serde_json_on_literals
-text-name zero = refl
-text-name (suc zero) = refl
-text-name (suc (suc zero)) = refl
-text-name (suc (suc (suc zero))) = refl
-text-name (suc (suc (suc (suc zero)))) = refl
-text-name (suc (suc (suc (suc (suc code))))) = refl
-
-no_float-name : (name : Option (List ℕ)) → has_float (data_or_null string name) ≡ false
-no_float-name = no_float-or_null string (λ name. refl)
+text-name code = search rules
 
 -- ---- the list of readings
 
 text-named : (name : List ℕ) (meaning : Meaning) → compact_text (named_data name meaning) ≡ reading_text name meaning
 unfolding serde_json_on_literals
 text-named name (value ratio unit) =
-    let ms : List (List ℕ × Data) = named_members name (value ratio unit) in
-    let same : object_text (named_texts ms) ≡ reading_text name (value ratio unit) = rw (digits_of ratio.num) refl in
-    object_written ms (refl, (refl, (refl, (refl, tt)))) ∙ same
+    object_written (named_members name (value ratio unit)) (refl, (refl, (refl, (refl, tt))))
+    ∙ rw (digits_of ratio.num) refl
 text-named name (word text) = object_written (named_members name (word text)) (refl, (refl, tt))
 text-named name (raw n) = object_written (named_members name (raw n)) (refl, (refl, tt))
 text-named name (out_of_range n) = object_written (named_members name (out_of_range n)) (refl, (refl, tt))
@@ -162,13 +146,7 @@ text-entry : (entry : Entry) → compact_text (entry_data entry) ≡ entry_objec
 text-entry entry = text-named entry.name entry.meaning
 
 no_float-entry : (entry : Entry) → has_float (entry_data entry) ≡ false
-no_float-entry entry = one entry.name entry.meaning
-  where
-    one : (name : List ℕ) (meaning : Meaning) → has_float (named_data name meaning) ≡ false
-    one name (value ratio unit) = rw (no_float-integer ratio.num) refl
-    one name (word text) = refl
-    one name (raw n) = refl
-    one name (out_of_range n) = refl
+no_float-entry entry = search (rules, no_float-integer)
 
 -- the entries after the first, each with a comma before it
 text-rest : (list : List Entry)
@@ -194,55 +172,44 @@ no_float-items (entry ∷ list) = rw (no_float-entry entry) (no_float-items list
 pub reading_written : (line : ReadingLine) (bytes : List ℕ)
     → IsLineOf (SendsValue (object_of (reading_members line))) bytes → bytes ≡ text (Reading line)
 unfolding serde_json_on_literals
-reading_written line bytes sent =
-    let same : object_text (named_texts (reading_members line)) ++ codes "\n" ≡ text (Reading line) =
-    rw (text-dbm line.dbm, plain-eep line.eep, plain-id line.id, text-items line.readings) refl in
-    let whole : has_float (object_of (reading_members line)) ≡ false =
-    rw (no_float-dbm line.dbm, no_float-items line.readings) refl in
-    line_written (reading_members line) bytes (refl, (refl, (refl, (refl, (refl, tt))))) whole sent ∙ same
+reading_written line bytes =
+    line_written (reading_members line) (Reading line) bytes (refl, (refl, (refl, (refl, (refl, tt)))))
+    (rw (no_float-dbm line.dbm, no_float-items line.readings) refl)
+    (rw (text-dbm line.dbm, plain-eep line.eep, plain-id line.id, text-items line.readings) refl)
 
 pub teach_written : (line : TeachLine) (bytes : List ℕ) → IsLineOf (SendsValue (object_of (teach_members line))) bytes
     → bytes ≡ text (Teach line)
 unfolding serde_json_on_literals
-teach_written line bytes sent =
-    let same : object_text (named_texts (teach_members line)) ++ codes "\n" ≡ text (Teach line) =
-    rw (text-known_profile line.eep, plain-id line.id, text-maker line.maker, plain-outcome line.outcome) refl in
-    let whole : has_float (object_of (teach_members line)) ≡ false =
-    rw (no_float-known_profile line.eep, no_float-maker line.maker) refl in
-    line_written (teach_members line) bytes (refl, (refl, (refl, (refl, (refl, tt))))) whole sent ∙ same
+teach_written line bytes =
+    line_written (teach_members line) (Teach line) bytes (refl, (refl, (refl, (refl, (refl, tt)))))
+    (rw (no_float-known_profile line.eep, no_float-maker line.maker) refl)
+    (rw (text-known_profile line.eep, plain-id line.id, text-maker line.maker, plain-outcome line.outcome) refl)
 
 pub device_written : (known : Device) (bytes : List ℕ) → IsLineOf (SendsValue (object_of (device_members known))) bytes
     → bytes ≡ text (DeviceLine known)
 unfolding serde_json_on_literals
-device_written known bytes sent =
-    let same : object_text (named_texts (device_members known)) ++ codes "\n" ≡ text (DeviceLine known) =
-    rw (plain-eep known.eep, plain-id known.id, text-maker known.maker) refl in
-    let whole : has_float (object_of (device_members known)) ≡ false = rw (no_float-maker known.maker) refl in
-    line_written (device_members known) bytes (refl, (refl, (refl, (refl, (refl, tt))))) whole sent ∙ same
+device_written known bytes =
+    line_written (device_members known) (DeviceLine known) bytes (refl, (refl, (refl, (refl, (refl, tt)))))
+    (rw (no_float-maker known.maker) refl) (rw (plain-eep known.eep, plain-id known.id, text-maker known.maker) refl)
 
 pub list_written : (count : ℕ) (bytes : List ℕ) → IsLineOf (SendsValue (object_of (list_end_members count))) bytes
     → bytes ≡ text (ListEnd count)
 unfolding serde_json_on_literals
-list_written count bytes sent = line_written (list_end_members count) bytes (refl, (refl, tt)) refl sent
+list_written count bytes = line_written (list_end_members count) (ListEnd count) bytes (refl, (refl, tt)) refl refl
 
 pub status_written : (counts : Counts) (mode : Mode) (bytes : List ℕ)
     → IsLineOf (SendsValue (object_of (status_members counts mode))) bytes → bytes ≡ text (StatusLine counts mode)
 unfolding serde_json_on_literals
-status_written counts mode bytes sent =
-    let same : object_text (named_texts (status_members counts mode)) ++ codes "\n" ≡ text (StatusLine counts mode) =
-    rw (plain-mode mode) refl in
-    let plain : ArePlain (status_members counts mode) =
-    (refl, (refl, (refl, (refl, (refl, (refl, (refl, tt))))))) in
-    line_written (status_members counts mode) bytes plain refl sent ∙ same
+status_written counts mode bytes =
+    line_written (status_members counts mode) (StatusLine counts mode) bytes
+    (refl, (refl, (refl, (refl, (refl, (refl, (refl, tt))))))) refl (rw (plain-mode mode) refl)
 
 pub response_written : (response : ModuleResponse) (line : List ℕ) → IsBytes response.bytes
     → IsLineOf (SendsValue (object_of (response_members response.code (encode_upper response.bytes)))) line
     → line ≡ text (ResponseLine response)
 unfolding serde_json_on_literals
-response_written response line bytes sent =
-    let ms : List (List ℕ × Data) = response_members response.code (encode_upper response.bytes) in
-    let same : object_text (named_texts ms) ++ codes "\n" ≡ text (ResponseLine response) =
-    rw (plain_bytes response.bytes bytes, text-name response.code) refl in
-    let whole : has_float (object_of ms)
-    ≡ false = rw (no_float-name (slice_get return_code_names response.code)) refl in
-    line_written ms line (refl, (refl, (refl, (refl, tt)))) whole sent ∙ same
+response_written response line bytes =
+    line_written (response_members response.code (encode_upper response.bytes)) (ResponseLine response) line
+    (refl, (refl, (refl, (refl, tt))))
+    (rw (no_float-or_null string (λ name. refl) (slice_get return_code_names response.code)) refl)
+    (rw (plain_bytes response.bytes bytes, text-name response.code) refl)

@@ -1,8 +1,6 @@
 -- Values that the type of their column leaves unchanged, and CHECKs that a number is between two others.
-use Rattle.keyed_table.proofs.Common.{◌≡◌, ℤ, refl, ◌≤ℤ◌, Bool, true, false, not, ◌&&◌, Some, sym, ◌∙◌, arith}
-use Rattle.keyed_table.proofs.Common.{cond_both, and_parts, Null, Int, from_truth, ints, Binary, value_cmp}
-use Rattle.keyed_table.proofs.Common.{value_cmp-Int, Compare}
-use Rattle.std.proofs.Common.{is_le, is_ge}
+use Rattle.keyed_table.proofs.Common.{◌≡◌, ℤ, refl, ◌≤ℤ◌, Bool, true, not, ◌&&◌, Some, arith, cond_both, and_parts}
+use Rattle.keyed_table.proofs.Common.{Null, Int, from_truth, Binary, value_cmp-Int, Compare}
 use Rattle.sqlite.specs.Cast.{cast}
 use Rattle.sqlite_sql.specs.Ops.{unary, binary, is_false, truth, and3}
 use Rattle.sqlite_sql.specs.declared.ops.BinaryOp.TheVariants.{And}
@@ -27,16 +25,8 @@ is_between low high n =
 
 truths : (a b : Bool) → not (is_false (from_truth (and3 (truth (from_truth (Some a))) (truth (from_truth (Some b))))))
     ≡ (a && b)
-truths true true = refl
-truths true false = refl
-truths false true = refl
-truths false false = refl
+truths a b = search arith
 
 pub lies_between : (low high n : ℤ) → is_between low high n ≡ true → (low ≤ℤ n) × (n ≤ℤ high)
 unfolding binary
-lies_between low high n h =
-    let two =
-    and_parts (is_ge (value_cmp (Int n) (Int low))) (is_le (value_cmp (Int n) (Int high))) (sym (truths _ _) ∙ h) in
-    let above = rw value_cmp-Int at two.0 in
-    let below = rw value_cmp-Int at two.1 in
-    (grind (arith, ints, above), grind (arith, ints, below))
+lies_between low high n passes = search (arith, and_parts, truths, value_cmp-Int)

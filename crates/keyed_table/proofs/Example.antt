@@ -1,8 +1,8 @@
 -- The example's table is a map: its codec, and what its texts mean.
 use Rattle.keyed_table.proofs.Common.{inl, ◌≡◌, ℕ, ℤ, pos, negsuc, [], ◌∷◌, codes, Some, None, true, refl, arith}
-use Rattle.keyed_table.proofs.Common.{and_parts, ints, Binary, Database, Schema, col, empty, AdmitsTable}
-use Rattle.keyed_table.proofs.Common.{passes_checks, Eq, Ne, CallStar, One, table_of, IsCodec, SqlTextsCompile}
-use Rattle.keyed_table.proofs.Common.{HoldsMap, find_query, all_query, ParsesAs}
+use Rattle.keyed_table.proofs.Common.{and_parts, ints, Binary, Database, Schema, col, empty, AdmitsTable, passes_checks}
+use Rattle.keyed_table.proofs.Common.{Eq, Ne, CallStar, One, table_of, IsCodec, SqlTextsCompile, HoldsMap, find_query}
+use Rattle.keyed_table.proofs.Common.{all_query, ParsesAs}
 use Rattle.sqlite_tied.specs.Compute.{everything}
 use Rattle.sqlite_ast.specs.declared.Expr.TheVariants.{Parameter}
 use Rattle.keyed_table.specs.Example.{height_text, heights, IsHeight}

@@ -1,23 +1,20 @@
 -- The statements on a table with an integer key: their effect on the trees, and on the map that the rows encode.
 use Rattle.keyed_table.proofs.Common.{◌≡◌, ◌≢◌, inl, inr, ℕ, false, List, [], ◌∷◌, length, Option, None, Some, refl}
-use Rattle.keyed_table.proofs.Common.{◌==◌, ◌<◌, ◌⊎◌, ℤ, Bool, true, Ok, Err, Result, if◌then◌else◌, MatchBool, sym}
-use Rattle.keyed_table.proofs.Common.{ap, subst, ◌∙◌, slice_get, arith, pos, ◌&&◌, map, IsPermutation, nat_cmp}
-use Rattle.keyed_table.proofs.Common.{false_from_ne_true, not-true, and_parts, both_ways, and_left, and_right, ne_eqb}
-use Rattle.keyed_table.proofs.Common.{AllByRecursion, flat_map, Row, column, Schema, Table, Keys, same_name, IsLone}
-use Rattle.keyed_table.proofs.Common.{HasNoReferenceTo, TreeHasName, Query, IsAnswer, overlay, Insert, Update, Delete}
-use Rattle.keyed_table.proofs.Common.{Null, Int, Mode, Command, catalog_tree, Trees, put_row, rowid, Has, all_has}
-use Rattle.keyed_table.proofs.Common.{all_from, IsTableRow, IsIndexRow, zipped_left, same_rowid, Chosen, Given}
-use Rattle.keyed_table.proofs.Common.{edit_of, edited, without_all, ids_of, Database, IsDatabase, Tally, program_of}
-use Rattle.keyed_table.proofs.Common.{lookup_params, find_query, rows_query, cast_row, all-permutation, all_weaker}
-use Rattle.keyed_table.proofs.Common.{insert, remove, FinMap, get, entries, len, IsPermutation-trans, Collation}
-use Rattle.keyed_table.proofs.Common.{Binary, eval_all, Index, none_from_any, any_from_none, are_tied, HasKey}
-use Rattle.keyed_table.proofs.Common.{AreKeyed, map_of, Values, CompilesTo, State, Shown, mode_of, count, Codec}
+use Rattle.keyed_table.proofs.Common.{◌==◌, ◌<◌, ◌⊎◌, ℤ, Bool, true, Ok, Err, Result, if◌then◌else◌, MatchBool, sym, ap}
+use Rattle.keyed_table.proofs.Common.{subst, ◌∙◌, slice_get, arith, pos, map, IsPermutation, nat_cmp, AllByRecursion}
+use Rattle.keyed_table.proofs.Common.{flat_map, Row, Schema, Table, Keys, same_name, IsLone, HasNoReferenceTo}
+use Rattle.keyed_table.proofs.Common.{TreeHasName, Query, IsAnswer, overlay, Insert, Update, Delete, Null, Mode}
+use Rattle.keyed_table.proofs.Common.{Command, catalog_tree, Trees, put_row, rowid, Has, all_has, all_from, IsTableRow}
+use Rattle.keyed_table.proofs.Common.{zipped_left, same_rowid, Chosen, Given, edit_of, edited, without_all, ids_of}
+use Rattle.keyed_table.proofs.Common.{Database, IsDatabase, Tally, program_of, lookup_params, find_query, rows_query}
+use Rattle.keyed_table.proofs.Common.{cast_row, all-permutation, all_weaker, insert, remove, FinMap, get, entries, len}
+use Rattle.keyed_table.proofs.Common.{IsPermutation-trans, Collation, eval_all, Index, none_from_any, any_from_none}
+use Rattle.keyed_table.proofs.Common.{HasKey, AreKeyed, map_of, Values, CompilesTo, State, Shown, mode_of, count, Codec}
 use Rattle.keyed_table.proofs.Common.{table_of, IsCodec, SqlTextsCompile, AreMap, HoldsMap}
-use Rattle.std.proofs.lemmas.Bool.{eqb-true, or_cases}
 use Rattle.std.specs.List.{filter_map}
 use Rattle.sqlite_schema.specs.declared.schema.Reference.{Reference}
-use Rattle.sqlite_rules.specs.Keys.{AreConflicts, conflicts, shares}
-use Rattle.sqlite_schema.specs.Rules.{ParentKey, parent_key, equal}
+use Rattle.sqlite_rules.specs.Keys.{AreConflicts, conflicts}
+use Rattle.sqlite_schema.specs.Rules.{ParentKey, parent_key}
 use Rattle.sqlite_rules.specs.Action.{works, work_for, work_by, deed_for, pairs, Writes}
 use Rattle.sqlite_rules.specs.declared.action.Deed.{Deed}
 use Rattle.keyed_table.proofs.ListedTables.{same_name_symmetric, same_as_third}
@@ -26,7 +23,7 @@ use Rattle.sqlite.specs.Command.TheVariants.{InsertOr, Select as Selects}
 use Rattle.sqlite_rules.proofs.PlaceLemmas.{named_parent}
 use Rattle.sqlite_rules.specs.declared.error.Rowids.{Rowids}
 use Rattle.sqlite_rules.specs.declared.error.Rowids.TheVariants.{Above}
-use Rattle.sqlite_rules.specs.Edit.{Edit, Applies, IsNoIndex, taken_by, with_rowid, is_taken, id_in, numbered}
+use Rattle.sqlite_rules.specs.Edit.{Edit, Applies, IsNoIndex, with_rowid, is_taken, id_in, numbered}
 use Rattle.sqlite.specs.Effect.{IsSource}
 use Rattle.sqlite.specs.Does.{AtPlace, OnRows, WritesRows}
 use Rattle.sqlite.specs.Rows.{Written, Task, stamped, count_of, nothing, mended, Puts, Clears, Tries, TriesEach}
@@ -40,7 +37,7 @@ use Rattle.sqlite_value.specs.Keys.{first_key}
 use Rattle.sqlite_sql.specs.Ops.{binary}
 use Rattle.keyed_table.specs.Rows.{entry_of}
 use Rattle.keyed_table.proofs.RowsAsMap.{truth_alone, shows_all, env_of, remove_absent, ranked_permutes, IsFound}
-use Rattle.keyed_table.proofs.RowsAsMap.{key_is, put_alike, insert_without, keyed_without_all, keyed_turned}
+use Rattle.keyed_table.proofs.RowsAsMap.{key_is, put_keeps_map, insert_without, keyed_without_all, keyed_turned}
 use Rattle.keyed_table.proofs.RowsAsMap.{map_without, ranked, apart_from, differ_from, entries_ranked}
 use Rattle.sqlite_trees.proofs.TreeLemmas.{all-put_row}
 use Rattle.keyed_table.proofs.Statements.{turned, CommitsWithRoom, AlwaysCommits}
@@ -52,14 +49,7 @@ module _ (schema : Schema) (name : List ℕ) (tree : ℕ) (keeps : AllByRecursio
   no_work : (child : Table) (reference : Reference) → same_name reference.parent name ≡ false → (deed : Option Deed)
       (key : Option ParentKey) → parent_key schema.tables reference ≡ key
       → work_by 0 tree (pairs olds news) child reference deed key ≡ None
-  no_work child reference spares None key is = refl
-  no_work child reference spares (Some deed) None is = refl
-  no_work child reference spares (Some deed) (Some key) is =
-      let parent = named_parent schema.tables reference key is in
-      rw (false_from_ne_true (key.0 == tree) (λ same.
-      let clash = same_as_third reference.parent name parent.0.name (same_name_symmetric _ _ parent.3)
-      (same_name_symmetric _ _ (all_has (TreeHasName name tree) schema.tables parent.0 keeps parent.1
-      (parent.2 ∙ eqb-true _ _ same))) in cc))
+  no_work child reference spares deed key is = search (arith, named_parent, same_as_third, same_name_symmetric, all_has)
 
   none_of : (child : Table) (references : List Reference)
       → AllByRecursion (λ reference. same_name reference.parent name ≡ false) references
@@ -90,11 +80,7 @@ pub record SparesOthers (schema : Schema) (tree : ℕ) (before after : Trees) : 
 
 spares : (schema : Schema) (keys : Keys) (db next : Trees) (edit : Edit) → Applies schema keys db edit next
     → SparesOthers schema edit.table.tree db next
-spares schema keys db next edit step = record {
-  tables = λ t has other.
-      all_has (λ t. t.tree ≢ edit.table.tree → next t.tree ≡ db t.tree) schema.tables t step.tables has other;
-  objects = λ other none. step.others catalog_tree (λ e. other (sym e)) none;
-}
+spares schema keys db next edit step = search (arith, all_has)
 
 pub table_low : (db : Database) → IsDatabase db → (t : Table) → Has db.schema.tables t → t.tree < 65536
 table_low db sound t has = (zipped_left IsTableRow _ db.schema.tables t sound.lists.listed.tables has).2.described.low
@@ -102,15 +88,11 @@ table_low db sound t has = (zipped_left IsTableRow _ db.schema.tables t sound.li
 -- neither a table nor an index of a sound database is in the tree of the list of objects
 pub objects_spared : (db : Database) → IsDatabase db → (t : Table) → Has db.schema.tables t → (after : Trees)
     → SparesOthers db.schema t.tree db.trees after → after catalog_tree ≡ db.trees catalog_tree
-objects_spared db sound t has after spared =
-    spared.objects (λ e. let low = table_low db sound t has in omega (arith, low, e))
-    (all_from _ db.schema.indexes (λ i there e. let row = zipped_left (IsIndexRow db.schema.tables) _ db.schema.indexes
-    i sound.lists.listed.indexes there in omega (arith, row.2.described.low, e)))
+objects_spared db sound t has after spared = search (arith, all_from, zipped_left)
 
 -- no part of a statement failed if the statement succeeded
 pub went : {B E R : Type 0} {b : B} {Stops : E → Type 0} → ((crash : E) × Stops crash × (Ok b ≡ Err crash)) ⊎ R → R
-went (inl stopped) = absurd (let e = stopped.2 in cc)
-went (inr on) = on
+went done = search arith
 
 pub same_value : {B E : Type 0} {a b : B} → ◌≡◌ {A = Result B E} (Ok a) (Ok b) → a ≡ b
 same_value e = cc
@@ -121,8 +103,7 @@ same_trees e = ap (λ (w : Written). w.trees) (same_value e)
 
 -- a table without AUTOINCREMENT counts no rowids
 uncounts : (b c : Bool) (A B : Type 0) → b ≡ false → MatchBool (if b then c else false) A B → B
-uncounts true c A B e h = absurd cc
-uncounts false c A B e h = h
+uncounts b c A B uncounted counts = search arith
 
 -- the statement applied this edit to its table, and changed nothing else
 pub record IsStep (schema : Schema) (db : Trees) (edit : Edit) (after : Database) : Type 0 where
@@ -159,37 +140,34 @@ module _ (schema : Schema) (at : ℕ) (table : Table) (there : slice_get schema.
   applied : (db next : Trees) (gone : List ℤ) (rowids : Rowids) (from : ℕ) (sources : List Row)
       → Writes schema mode.keys db (edit_of db table gone rowids from sources) (Ok next)
       → Applies schema mode.keys db (edit_of db table gone rowids from sources) next
-  applied db next gone rowids from sources =
-      let edit = edit_of db table gone rowids from sources in
-      one_step schema mode.keys db next edit (stands mode.keys (taken_by db edit) edit.news)
+  applied db next gone rowids from sources = search one_step
 
   module _ (db : Trees) (tally : Tally) (after : Database) where
     -- the database and the count that a statement on the table leaves
     concludes : (command : Command) → Did schema limit mode params db at command tally after
         → (w : Written) × WritesRows task db command (Ok w)
         × (after ≡ record { schema = schema; trees = w.trees }) × (tally.rows ≡ Some (length w.rows))
-    concludes command did =
-        let done = went (rw there at did) in
-        let shown = same_value (went (went done.2).2).2 in
-        (done.0, done.1, ap (λ (p : Tally × Database). p.1) shown, ap (λ (p : Tally × Database). p.0.rows) shown)
+    concludes command did = search arith
 
     step : (gone : List ℤ) (rowids : Rowids) (from : ℕ) (sources : List Row) (next written : Trees)
         → Writes schema mode.keys db (edit_of db table gone rowids from sources) (Ok next) → written ≡ next
         → after ≡ record { schema = schema; trees = written }
         → IsStep schema db (edit_of db table gone rowids from sources) after
     step gone rowids from sources next written writes same is =
-        let it = applied db next gone rowids from sources writes in
-        rw (is, same) (record { schema_is = refl; rows = it.rows; others = spares schema mode.keys db next _ it })
+        let applies = applied db next gone rowids from sources writes in
+        let others = spares schema mode.keys db next _ applies in
+        rw (is, same) (record { schema_is = refl; rows = applies.rows; others = others })
 
     -- DELETE: the rows that the query shows are deleted
     pub deletes : (q : Query) → Did schema limit mode params db at (Delete at (program_of q)) tally after
         → (rows : List Row) × IsAnswer q (overlay db []) params rows
         × IsStep schema db (edit_of db table (ids_of rows) Given 0 []) after
     deletes q did =
-        let it = concludes (Delete at (program_of q)) did in
-        let queried = went it.1 in
+        let concluded = concludes (Delete at (program_of q)) did in
+        let queried = went concluded.1 in
         let edited = went queried.2 in
-        (queried.0, queried.1.answer Null, step (ids_of queried.0) Given 0 [] _ _ edited.1 (same_trees edited.2) it.2)
+        let done = step (ids_of queried.0) Given 0 [] _ _ edited.1 (same_trees edited.2) concluded.2 in
+        (queried.0, queried.1.answer Null, done)
 
     -- UPDATE: each row that the query shows is replaced
     pub updates : (q : Query) → Did schema limit mode params db at (Update at (program_of q)) tally after
@@ -197,11 +175,12 @@ module _ (schema : Schema) (at : ℕ) (table : Table) (there : slice_get schema.
         × IsStep schema db (edit_of db table (ids_of rows) Given 1 rows) after
         × (tally.rows ≡ Some (length (edit_of db table (ids_of rows) Given 1 rows).news))
     updates q did =
-        let it = concludes (Update at (program_of q)) did in
-        let queried = went it.1 in
+        let concluded = concludes (Update at (program_of q)) did in
+        let queried = went concluded.1 in
         let edited = went queried.2 in
-        let done = step (ids_of queried.0) Given 1 queried.0 edited.0 it.0.trees edited.1 (same_trees edited.2) it.2 in
-        (queried.0, queried.1.answer Null, done, it.3 ∙ ap (λ w. Some (length w.rows)) (same_value edited.2))
+        let done = step (ids_of queried.0) Given 1 queried.0 edited.0 concluded.0.trees edited.1 (same_trees edited.2)
+        concluded.2 in
+        (queried.0, queried.1.answer Null, done, concluded.3 ∙ ap (λ w. Some (length w.rows)) (same_value edited.2))
 
     -- INSERT: the rows that the source gives are inserted
     pub inserts : (source : Source) → table.is_counted ≡ false
@@ -209,15 +188,15 @@ module _ (schema : Schema) (at : ℕ) (table : Table) (there : slice_get schema.
         → (rows : List Row) × IsSource (record { schema = schema; trees = db }) (stamped table params) source rows
         × IsStep schema db (edit_of db table [] Chosen 0 rows) after
     inserts source uncounted did =
-        let it = concludes (Insert at source) did in
-        let given = went it.1 in
+        let concluded = concludes (Insert at source) did in
+        let given = went concluded.1 in
         let counted = went given.2 in
         let edited = went counted.2 in
         let ended = went edited.2 in
-        let done = step [] Chosen 0 given.0 edited.0 it.0.trees
+        let done = step [] Chosen 0 given.0 edited.0 concluded.0.trees
         (subst (λ b. Writes schema mode.keys db (edit_of db table [] (if b then Above (count_of counted.0) else
         Chosen) 0 given.0) (Ok edited.0)) uncounted edited.1)
-        (same_trees ended.2 ∙ same_value (uncounts table.is_counted _ _ _ uncounted ended.1)) it.2 in
+        (same_trees ended.2 ∙ same_value (uncounts table.is_counted _ _ _ uncounted ended.1)) concluded.2 in
         (given.0, given.1, done)
 
   module _ (new : Row) (cast : cast_row table new ≡ new) where
@@ -230,11 +209,8 @@ module _ (schema : Schema) (at : ℕ) (table : Table) (there : slice_get schema.
     puts db w h =
         let done = went h in
         let step = applied db done.0 [] Given 0 (new ∷ []) done.1 in
-        subst (IsInserted (db table.tree) db) (sym (same_trees done.2)) (
-          step.rows ∙ ap (λ r. put_row r (db table.tree)) cast,
-          spares schema mode.keys db done.0 _ step,
-          ap (is_taken (db table.tree)) (sym cast) ∙ not-true _ (and_parts _ _ step.fresh).0,
-        )
+        let others = spares schema mode.keys db done.0 _ step in
+        subst (IsInserted (db table.tree) db) (sym (same_trees done.2)) (search (arith, others))
 
     clears : (db : Trees) (found : List Row) (w : Written) → Clears task Replace new db found (Ok w)
         → IsInserted (without_all (db table.tree) (ids_of found)) db w.trees
@@ -243,21 +219,10 @@ module _ (schema : Schema) (at : ℕ) (table : Table) (there : slice_get schema.
         let done = went h in
         let step = applied db done.0 (ids_of (x ∷ more)) Given 0 [] done.1 in
         let first = spares schema mode.keys db done.0 _ step in
-        let put = puts done.0 w done.2 in (
-          rw step.rows at put.0,
-          record {
-            tables = λ t has other. put.1.tables t has other ∙ first.tables t has other;
-            objects = λ other none. put.1.objects other none ∙ first.objects other none;
-          },
-          rw step.rows at put.2,
-        )
+        let put = puts done.0 w done.2 in (rw step.rows at put.0, search arith, rw step.rows at put.2)
 
     tries : (db : Trees) (w : Written) → Tries task Replace [] new db (Ok w) → IsUpserted schema table new db w.trees
-    tries db w (inl h) = absurd (let e = h.1 in cc)
-    tries db w (inr (Some why, judged, h)) = absurd (let e = h in cc)
-    tries db w (inr (None, judged, h)) =
-        let step = clears db h.0 w h.2 in
-        record { judged = judged; found = h.0; conflicting = h.1; fresh = step.2; rows = step.0; others = step.1 }
+    tries db written tried = search (arith, clears)
 
     pub upserts : (source : Source) (db : Trees) (tally : Tally) (after : Database) → table.is_counted ≡ false
         → ((rows : List Row) → IsSource (record { schema = schema; trees = db }) (stamped table params) source rows
@@ -266,8 +231,8 @@ module _ (schema : Schema) (at : ℕ) (table : Table) (there : slice_get schema.
         → Did schema limit mode params db at (InsertOr at Replace source []) tally after
         → (after.schema ≡ schema) × IsUpserted schema table new db after.trees
     upserts source db tally after uncounted sends did =
-        let it = concludes db tally after (InsertOr at Replace source []) did in
-        let given = went it.1 in
+        let concluded = concludes db tally after (InsertOr at Replace source []) did in
+        let given = went concluded.1 in
         let counted = went given.2 in
         let tried = went counted.2 in
         let ended = went tried.2 in
@@ -276,11 +241,11 @@ module _ (schema : Schema) (at : ℕ) (table : Table) (there : slice_get schema.
         sent.1 tried.1) in
         let row = ap (λ b. with_rowid (if b then Above (count_of counted.0) else Chosen) (db table.tree)
         (cast_row table (mended Replace table sent.0))) uncounted ∙ sent.2 in
-        let trees : after.trees ≡ each.0.trees = ap (λ (d : Database). d.trees) it.2 ∙ same_trees ended.2
+        let trees : after.trees ≡ each.0.trees = ap (λ (d : Database). d.trees) concluded.2 ∙ same_trees ended.2
         ∙ same_value (uncounts table.is_counted _ _ _ uncounted ended.1)
         ∙ ap (λ (p : Written × ℤ). p.0.trees) (same_value each.2) in
         let done = tries db each.0 (subst (λ row. Tries task Replace [] row db (Ok each.0)) row each.1) in
-        (ap (λ (d : Database). d.schema) it.2, rw trees done)
+        (ap (λ (d : Database). d.schema) concluded.2, rw trees done)
 
 all_without_all : (P : Row → Type 0) (rows : List Row) (gone : List ℤ) → AllByRecursion P rows
     → AllByRecursion P (without_all rows gone)
@@ -291,14 +256,8 @@ conflicts_by_key : (indexes : List Index) (table : Table) (new r : Row) (key : H
     → AllByRecursion (λ index. index.table ≢ table.tree) indexes → conflicts None indexes table new r ≡ true
     → id_in (rowid r) ≡ pos key.id
 unfolding first_key binary
-conflicts_by_key indexes table new r key it none h = elim (or_cases _ _ h) [
-  | inl both ↦
-      let alone : (equal Binary (column r 0) (column new 0) && true) ≡ true = both in
-      let tie = rw (it.id_is, key.id_is) at alone in
-      rw it.id_is (ap pos (same_rowid (Int (pos it.id) ∷ []) it.id key.id refl (sym (truth_alone _) ∙ tie)))
-  | inr shared ↦ absurd (both_ways _ (any_from_none (shares None table new r) indexes (all_weaker _ _ (λ index other.
-      and_left _ _ (and_left _ _ (and_right _ _ (ne_eqb _ _ other)))) indexes none)) shared)
-]
+conflicts_by_key indexes table new r key has_key unindexed conflicting =
+    search (arith, same_rowid, any_from_none, all_weaker)
 
 -- INSERT OR REPLACE: the rows stay keyed, and their map has the new row
 upserted : {V : Type 0} (value : Row → V) (schema : Schema) (table : Table) (new : Row) (before after : Trees)
@@ -306,8 +265,7 @@ upserted : {V : Type 0} (value : Row → V) (schema : Schema) (table : Table) (n
     → AllByRecursion (λ index. index.table ≢ table.tree) schema.indexes → AreKeyed (after table.tree)
     × (map_of value (after table.tree) ≡ insert (map_of value (before table.tree)) key.id (value new))
 upserted value schema table new before after it key keyed unindexed =
-    let put = put_alike value new _ key (none_from_any (λ r. are_tied r new) _ it.fresh)
-    (keyed_without_all (before table.tree) (ids_of it.found) keyed) in
+    let put = put_keeps_map value new _ key (search none_from_any) (search keyed_without_all) in
     let is = sym put.1 ∙ rw (key_is new key) (insert_without value (before table.tree) (ids_of it.found)
     key.id (value new) keyed.keys (all-map _ (λ x. id_in (rowid x)) it.found (all_from _ it.found (λ x there.
     let one = it.conflicting.sound x there in
@@ -350,14 +308,9 @@ module _ {V : Type 0} (c : Codec V) where
     pub others : SparesOthers before.schema tree before.trees after.trees
     pub rows : AreMap c (after.trees tree) m
 
-  rows_hold : {before after : Database} {m next : FinMap nat_cmp V} (h : HoldsMap c before m)
-      → after.schema ≡ before.schema → AreMap c (after.trees h.tree) next → HoldsMap c after next
-  rows_hold h same rows =
-      record { tree = h.tree; at = h.at; stands = rw same h.stands; lone = rw same h.lone; rows = rows }
-
   pub written : {before after : Database} {m next : FinMap nat_cmp V} (h : HoldsMap c before m)
       → IsWritten before after h.tree next → HoldsMap c after next
-  written h it = rows_hold h it.schema_is it.rows
+  written h changed = search arith
 
 -- what a query shows is an answer over the trees
 pub answer_of : {schema : Schema} {text : List ℕ} {q : Query} {names : List (List ℕ)} (params : Row) (old new : State)
@@ -368,9 +321,7 @@ answer_of {schema} {text} params old new rows it has h =
 
 pub keyed : {V : Type 0} {c : Codec V} → IsCodec c → {rows : List Row} {m : FinMap nat_cmp V} → AreMap c rows m
     → AreKeyed rows
-keyed {c = c} codec {rows} it =
-    let keys = all_weaker c.IsRow HasKey codec.key_of rows it.valid in
-    record { keys = keys; apart = apart_from rows keys it.differ }
+keyed {c = c} codec {rows} it = search (all_weaker, apart_from)
 
 module _ {V : Type 0} (c : Codec V) (codec : IsCodec c) (meant : SqlTextsCompile c) where
   module _ (old new : State) (m : FinMap nat_cmp V) (h : HoldsMap c old.now m) (rows : List Row) where
@@ -418,21 +369,18 @@ module _ {V : Type 0} (c : Codec V) (codec : IsCodec c) (meant : SqlTextsCompile
         let kept : with_rowid Chosen there (cast_row table (mended Replace table row)) ≡ row =
         ap (with_rowid Chosen there) (ap (cast_row table) (codec.mends h.tree id v) ∙ codec.stored h.tree id v)
         ∙ given_key there row key in
-        let it = upserts s.now.schema h.at table h.stands.there (lone_alone h.lone) s.step_limit (mode_of s)
+        let upserted_row = upserts s.now.schema h.at table h.stands.there (lone_alone h.lone) s.step_limit (mode_of s)
         (c.params id v) row (codec.stored h.tree id v) (Values c.upsert_terms c.upsert_width) s.now.trees tally after
         refl (λ rows given. (row, codec.upsert_row_is s.now h.tree id v rows given, kept)) does in
-        let now = upserted c.value s.now.schema table row s.now.trees after.trees it.1 key (keyed codec h.rows)
-        h.lone.unindexed in
-        changes s.now after x had sound room (record {
-          schema_is = it.0;
-          others = it.1.others;
-          rows = record {
-            valid = rw it.1.rows (all-put_row c.IsRow row _ (codec.passing_is_row h.tree id v fits it.1.judged)
-                (all_without_all c.IsRow there (ids_of it.1.found) h.rows.valid));
-            differ = differ_from (after.trees h.tree) now.0.apart;
-            is = now.1 ∙ rw (codec.key_back id v, codec.back id v fits, h.rows.is);
-          };
-        }))
+        let now = upserted c.value s.now.schema table row s.now.trees after.trees upserted_row.1 key
+        (keyed codec h.rows) h.lone.unindexed in
+        let valid = all-put_row c.IsRow row _ (codec.passing_is_row h.tree id v fits upserted_row.1.judged)
+        (all_without_all c.IsRow there (ids_of upserted_row.1.found) h.rows.valid) in
+        let is = now.1 ∙ rw (codec.key_back id v, codec.back id v fits, h.rows.is) in
+        let differ = differ_from (after.trees h.tree) now.0.apart in
+        let rows : AreMap c (after.trees h.tree) (insert (part x) id v) =
+        record { valid = rw upserted_row.1.rows valid; differ = differ; is = is } in
+        changes s.now after x had sound room (search))
 
     pub deletes_part : (id : ℕ) → Changes (λ m. remove m id)
         → CommitsWithRoom Holds c.delete_sql (lookup_params id) change HasRoom
@@ -442,22 +390,18 @@ module _ {V : Type 0} (c : Codec V) (codec : IsCodec c) (meant : SqlTextsCompile
         (λ s after text tally x had sound room does.
         let h = holds s.now x had in
         let there = s.now.trees h.tree in
-        let it = deletes s.now.schema h.at (table_of c h.tree) h.stands.there (lone_alone h.lone) s.step_limit
+        let deleted = deletes s.now.schema h.at (table_of c h.tree) h.stands.there (lone_alone h.lone) s.step_limit
         (mode_of s) (lookup_params id) s.now.trees tally after (find_query h.tree (col 1 0 ∷ [])) does in
-        let removed : map_of c.value (without_all there (ids_of it.0)) ≡ remove (part x) id =
-        rw (← h.rows.is) (elim (answers.finds c.value h.tree s.now.trees (keyed codec h.rows) id it.0 it.1) [
-          | inl none ↦ rw none.1 (sym (remove_absent (map_of c.value there) id none.0))
+        let removed : map_of c.value (without_all there (ids_of deleted.0)) ≡ remove (part x) id =
+        rw (← h.rows.is) (elim (answers.finds c.value h.tree s.now.trees (keyed codec h.rows) id deleted.0 deleted.1) [
+          | inl none ↦ search (arith, remove_absent)
           | inr some ↦ rw (some.2, some.3) (map_without c.value there id (keyed codec h.rows).keys)
         ]) in
-        changes s.now after x had sound room (record {
-          schema_is = it.2.schema_is;
-          others = it.2.others;
-          rows = rw it.2.rows (record {
-            valid = all_without_all c.IsRow there (ids_of it.0) h.rows.valid;
-            differ = differ_from _ (keyed_without_all there (ids_of it.0) (keyed codec h.rows)).apart;
-            is = removed;
-          });
-        }))
+        let valid = all_without_all c.IsRow there (ids_of deleted.0) h.rows.valid in
+        let differ = differ_from _ (keyed_without_all there (ids_of deleted.0) (keyed codec h.rows)).apart in
+        let rows : AreMap c (after.trees h.tree) (remove (part x) id) =
+        rw deleted.2.rows (record { valid = valid; differ = differ; is = removed }) in
+        changes s.now after x had sound room (search))
 
   -- an upsert inserts the value; if it fails and the connection is still open, the map is the old one; a crash leaves
   -- what it could leave before, or the new map
@@ -478,10 +422,7 @@ module _ {V W : Type 0} (c : Codec V) (d : Codec W) (apart : same_name d.name c.
   pub keeps_other : {before after : Database} {m next : FinMap nat_cmp V} {other : FinMap nat_cmp W}
       (h : HoldsMap c before m) → HoldsMap d before other → IsWritten c before after h.tree next
       → HoldsMap d after other
-  keeps_other {before} h k it =
-      rows_hold d k it.schema_is (rw (it.others.tables (table_of d k.tree) k.lone.listed (λ e. both_ways _ apart
-      (all_has (TreeHasName c.name h.tree) before.schema.tables (table_of d k.tree) h.lone.keeps k.lone.listed e)))
-      k.rows)
+  keeps_other h kept written = search (arith, all_has)
 
   module _ (codec : IsCodec c) (meant : SqlTextsCompile c) where
     abbrev pub HoldsBoth : Database → FinMap nat_cmp V × FinMap nat_cmp W → Type 0

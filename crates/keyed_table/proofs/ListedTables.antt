@@ -1,29 +1,28 @@
 -- The list of the objects of a sound database. No two objects have the same name, and a table is the one that its text
 -- defines; so the trees determine the database. The query for the objects reads this list, since no table or view has
 -- the name that the query reads.
-use Rattle.keyed_table.proofs.Common.{Database, IsDatabase, value_cmp, Schema, Table, Text, Null, zipped_left}
-use Rattle.keyed_table.proofs.Common.{same_itself, IsSound, IsTableRow, IsIndexRow, all_from, all_has, has_got}
-use Rattle.keyed_table.proofs.Common.{has_filtered, has_left, has_right, some_from, Has, same_name, table_named}
-use Rattle.keyed_table.proofs.Common.{view_named, catalog_tree, Trees, subst, is_some, None, Option, filter, List, []}
-use Rattle.keyed_table.proofs.Common.{◌∷◌, ◌++◌, map, codes, ◌≡◌, ◌⊎◌, inl, inr, ℕ, ◌<◌, Bool, true, false, ◌+◌}
-use Rattle.keyed_table.proofs.Common.{slice_get, Some, refl, sym, ap, ◌∙◌, arith, Ok, is_eq, length, both_ways}
-use Rattle.keyed_table.proofs.Common.{false_from_ne_true, or_from, not-true, and_parts, none_from_any, AllZip}
-use Rattle.keyed_table.proofs.Common.{AllByRecursion, position_from, list_any, HoldsIn, col, IsPlain, command_of}
-use Rattle.keyed_table.proofs.Common.{all_query, program_of, State, Value}
+use Rattle.keyed_table.proofs.Common.{Database, IsDatabase, Schema, Table, Text, Null, zipped_left, same_itself}
+use Rattle.keyed_table.proofs.Common.{IsSound, IsTableRow, all_from, all_has, has_got, has_filtered, has_left}
+use Rattle.keyed_table.proofs.Common.{has_right, some_from, Has, same_name, table_named, catalog_tree, Trees, subst}
+use Rattle.keyed_table.proofs.Common.{is_some, None, Option, filter, List, [], ◌∷◌, ◌++◌, map, codes, ◌≡◌, ◌⊎◌, inl}
+use Rattle.keyed_table.proofs.Common.{inr, ℕ, ◌<◌, Bool, true, false, ◌+◌, slice_get, Some, refl, sym, ap, ◌∙◌, arith}
+use Rattle.keyed_table.proofs.Common.{Ok, length, not-true, and_parts, none_from_any, AllZip, AllByRecursion}
+use Rattle.keyed_table.proofs.Common.{position_from, list_any, HoldsIn, col, IsPlain, command_of, all_query, program_of}
+use Rattle.keyed_table.proofs.Common.{State, Value}
 use Rattle.sqlite_resolve.specs.Compile.{table_defined_by, compiled}
 use Rattle.sqlite.specs.Effect.{Reads}
-use Rattle.sqlite.specs.Listing.{shown, understood, reads_listing, listing_schema, if_select, IsSourceOf}
+use Rattle.sqlite.specs.Listing.{understood, reads_listing, listing_schema, if_select, IsSourceOf}
 use Rattle.sqlite_value.specs.Order.{Row, column, bytes}
 use Rattle.sqlite_catalog.proofs.SoundLemmas.{names_agree, lowered, list_parts}
 use Rattle.sqlite_catalog.proofs.StepLemmas.{named_once}
-use Rattle.sqlite_catalog.specs.Listing.{IsViewRow, is_table_row, is_view_row}
+use Rattle.sqlite_catalog.specs.Listing.{is_table_row}
 use Rattle.sqlite_rules.proofs.ListLemmas.{has_found, test_has, some_has}
 use Rattle.sqlite_rules.proofs.ProbeLemmas.{has_mapped, mapped_has}
 use Rattle.sqlite_rules.proofs.TableLemmas.{put_all_has}
 use Rattle.sqlite_trees.specs.Sound.{Head, head_at, may_follow, are_in_order, is_sound_object, fits_kind, is_free_name}
-use Rattle.sqlite_value.proofs.OrderLemmas.{value_cmp-Text}
+use Rattle.sqlite_trees.specs.Sound.{same_name as spelled_same}
 use Rattle.sqlite_keyed.proofs.SliceLemmas.{any_is_found}
-use Rattle.std.proofs.lemmas.Bool.{or_parts, ltb-true, lt-ltb}
+use Rattle.std.proofs.lemmas.Bool.{ltb-true, lt-ltb}
 use Rattle.std.specs.List.{find, position_or_len}
 use Rattle.std.proofs.lemmas.Option.{cond_some, slice_get_cases, slice_get_within}
 use Rattle.std.proofs.lemmas.Iterator.Adapters.{position_from-zero}
@@ -38,8 +37,8 @@ use Rattle.sqlite.specs.State.{Shown}
 use Rattle.keyed_table.proofs.RowsAsMap.{shows_all}
 use Rattle.std.proofs.lemmas.Slice.Eq.{bytes_eq-Decides}
 use Rattle.std.proofs.lemmas.List.Sorted.{list_any-IsPermutation}
-use Rattle.sqlite_trees.specs.Sound.{same_name as spelled_same}
 use Rattle.sqlite.specs.Command.TheVariants.{Select as Selects}
+use Rattle.std.proofs.Common.{rules}
 
 pub same_name_symmetric : (a b : List ℕ) → same_name a b ≡ true → same_name b a ≡ true
 same_name_symmetric a b same = (lowered b a).1 (sym ((lowered a b).0 same))
@@ -60,10 +59,10 @@ pub record IsNamed (schema : Schema) (name : List ℕ) (tree : ℕ) : Type 0 whe
 pub found_at : {X : Type 0} (test : X → Bool) (at : ℕ) (xs : List X) → position_from test 0 xs ≡ Some at
     → (it : X) × (slice_get xs at ≡ Some it) × (test it ≡ true)
 found_at test at xs found =
-    let it = cond_some _ (position_or_len test xs) at (position_from-zero test xs ∙ found) in
-    let within : at < length xs = omega (arith, ltb-true _ _ it.0, it.1) in
+    let position = cond_some _ (position_or_len test xs) at (position_from-zero test xs ∙ found) in
+    let within : at < length xs = omega (arith, ltb-true _ _ position.0, position.1) in
     elim (slice_get_cases xs at).1 [
-      | inl (x, below, is, read) ↦ (x, is, (has_found test xs x (rw it.1 at (find_at test xs) ∙ is)).1)
+      | inl (x, below, is, read) ↦ (x, is, (has_found test xs x (rw position.1 at (find_at test xs) ∙ is)).1)
       | inr (past, none) ↦ absurd (omega arith)
     ]
 
@@ -79,10 +78,7 @@ none_at test i (x ∷ xs) none = rw none.0 (none_at test (i + 1) xs none.1)
 -- the table that is found by a name has this name
 pub has_name : (schema : Schema) (name : List ℕ) (at : ℕ) (table : Table) → table_named schema name ≡ Some at
     → slice_get schema.tables at ≡ Some table → same_name table.name name ≡ true
-has_name schema name at table named is =
-    let it = found_at (λ t. same_name t.name name) at schema.tables named in
-    let one : it.0 ≡ table = cc (it.1, is) in
-    rw one at it.2
+has_name schema name at table named is = search (arith, found_at)
 
 -- ---- the objects have different names
 
@@ -113,10 +109,8 @@ one_row : (earlier : List Head) (rows : List Row) (a b : Row) → IsInOrder earl
     → same_name (name_in a) (name_in b) ≡ true → a ≡ b
 one_row earlier [] a b up p q same = absurd p
 one_row earlier (r ∷ rows) a b up (inl p) (inl q) same = p ∙ sym q
-one_row earlier (r ∷ rows) a b up (inl p) (inr q) same =
-    absurd (both_ways _ (later_differs earlier r rows b up q) (rw p at same))
-one_row earlier (r ∷ rows) a b up (inr p) (inl q) same =
-    absurd (both_ways _ (later_differs earlier r rows a up p) (rw q at (same_name_symmetric _ _ same)))
+one_row earlier (r ∷ rows) a b up (inl p) (inr q) same = absurd (search (arith, later_differs))
+one_row earlier (r ∷ rows) a b up (inr p) (inl q) same = absurd (search (arith, later_differs, same_name_symmetric))
 one_row earlier (r ∷ rows) a b up (inr p) (inr q) same =
     one_row (earlier ++ head_at 1 r ∷ []) rows a b (and_parts _ _ up).1 p q same
 
@@ -124,20 +118,12 @@ one_row earlier (r ∷ rows) a b up (inr p) (inr q) same =
 pub listed_row : {X : Type 0} (R : Row → X → Type 0) (test : Row → Bool) (objects : List Row) (xs : List X)
     → AllZip R (filter test objects) xs → (x : X) → Has xs x
     → (row : Row) × Has objects row × (test row ≡ true) × R row x
-listed_row R test objects xs all x has =
-    let it = zipped_left R _ xs x all has in
-    let kept = has_filtered test objects it.0 it.1 in
-    (it.0, kept.0, kept.1, it.2)
+listed_row R test objects xs all x has = search (arith, zipped_left, has_filtered)
 
 -- each listed object has a row in the catalog tree, with the same name and text
 object : (trees : Trees) (name text : List ℕ) → HasCatalogText trees name text
     → (row : Row) × Has (trees catalog_tree) row × (column row 2 ≡ Text name) × (column row 4 ≡ Text text)
-object trees name text it = elim (put_all_has (map shown (trees catalog_tree)) [] it.row it.listed) [
-  | inl new ↦
-      let was = has_mapped shown (trees catalog_tree) it.row new in
-      (was.0, was.1, rw was.2 at it.name_is, rw was.2 at it.sql)
-  | inr none ↦ absurd none
-]
+object trees name text it = search (arith, put_all_has, has_mapped)
 
 module _ (db : Database) (sound : IsDatabase db) where
   abbrev objects : List Row
@@ -157,35 +143,25 @@ module _ (db : Database) (sound : IsDatabase db) where
         (rw (is, table_row.3.described.name_is) (same_as_third other table.name name same named))
 
     pub no_view : AllByRecursion (λ w. same_name w.name name ≡ false) db.schema.views
-    no_view = all_from _ db.schema.views (λ w there. false_from_ne_true _ (λ same.
-        let it = listed_row IsViewRow is_view_row objects db.schema.views sound.lists.listed.views w there in
-        let one = one_object it.0 w.name it.1 it.3.described.name_is same in
-        both_ways _ (or_from _ _ (ap (λ v. is_eq (value_cmp v (Text (codes "view")))) table_row.3.described.kind_is
-        ∙ ap is_eq (value_cmp-Text (codes "table") (codes "view"))) (not-true _ (and_parts _ _ table_row.2).1))
-        (rw one at it.2)))
+    no_view = search (arith, all_from, listed_row, one_object)
 
     pub no_index : AllByRecursion (λ i. same_name i.name name ≡ false) db.schema.indexes
-    no_index = all_from _ db.schema.indexes (λ i there. false_from_ne_true _ (λ same.
-        let it = listed_row (IsIndexRow db.schema.tables) _ objects db.schema.indexes
-        sound.lists.listed.indexes i there in
-        let one = one_object it.0 i.name it.1 it.3.described.name_is same in
-        both_ways _ (or_parts _ _ (not-true _ (rw one at it.2))).0 table_row.2))
+    no_index = search (arith, all_from, listed_row, one_object)
 
     pub one_table : (t : Table) → Has db.schema.tables t → same_name t.name name ≡ true → t ≡ table
-    one_table t there same = named_once db.schema.tables t table sound.lists.listed.named there has
-        (same_as_third t.name table.name name same named)
+    one_table t there same = search (arith, named_once, same_as_third)
 
   -- a table that is listed with a text is the table that the text defines
   pub defined : (name : List ℕ) (tree : ℕ) (n : IsNamed db.schema name tree) (text : List ℕ) (made : Table)
       → HasCatalogText db.trees name text → table_defined_by text ≡ Ok made
       → (n.table ≡ record made { tree = tree }) × (tree < 65536)
   defined name tree n text made lists is =
-      let it = object db.trees name text lists in
+      let listed = object db.trees name text lists in
       let has = has_got db.schema.tables n.at n.table n.there in
       let named = has_name db.schema name n.at n.table n.named n.there in
       let row = table_row n.table has name named in
-      let same = one_object n.table has name named it.0 name it.1 it.2 (same_itself name) in
-      let sql : row.3.sql ≡ text = cc (row.3.sql_is, it.3, same) in
+      let same = one_object n.table has name named listed.0 name listed.1 listed.2 (same_itself name) in
+      let sql : row.3.sql ≡ text = cc (row.3.sql_is, listed.3, same) in
       let one : row.3.defined.0 ≡ made = cc (row.3.defined.1, sql, is) in
       let is_made = rw one at row.3.defined.2 in
       (is_made ∙ ap (λ t. record made { tree = t }) n.is, rw n.is at row.3.described.low)
@@ -195,8 +171,7 @@ module _ {X : Type 0} (test : X → Bool) (xs : List X) (x : X) (has : Has xs x)
     (only : (y : X) → Has xs y → test y ≡ true → y ≡ x) where
   pub find_only : find test xs ≡ Some x
   find_only = elim (none_or_some (find test xs)) [
-    | inl none ↦
-        absurd (let any = sym (some_from test xs x has passes) ∙ any_is_found test xs ∙ ap is_some none in cc)
+    | inl none ↦ absurd (cc (some_from test xs x has passes, any_is_found test xs, ap is_some none))
     | inr some ↦ let own = has_found test xs some.0 some.1 in some.1 ∙ ap Some (only some.0 own.0 own.1)
   ]
 
@@ -208,16 +183,12 @@ module _ {X : Type 0} (test : X → Bool) (xs : List X) (x : X) (has : Has xs x)
 
 -- the trees of a sound database determine it
 pub one_database : {a b : Database} → a.trees ≡ b.trees → IsDatabase a → IsDatabase b → a ≡ b
-one_database {a} {b} trees sound_a sound_b =
-    let schema = lists_once (b.trees catalog_tree) a.schema b.schema (rw trees at sound_a).lists sound_b.lists in
-    λ i. record { schema = schema i; trees = trees i }
+one_database {a} {b} trees sound_a sound_b = search (arith, lists_once)
 
 -- the trees determine the value that a database holds, if each database holds at most one value
 pub held_once : {M : Type 0} (Holds : Database → M → Type 0) → ((db : Database) (a b : M) → Holds db a → Holds db b
     → a ≡ b) → (trees : Trees) (a b : M) → HoldsIn Holds trees a → HoldsIn Holds trees b → a ≡ b
-held_once Holds once trees a b one other =
-    let db = one_database (one.same ∙ sym other.same) one.sound other.sound in
-    once other.db a b (rw db at one.holds) other.holds
+held_once Holds once trees a b one other = search (arith, one_database)
 
 -- ---- the query for the objects
 
@@ -237,21 +208,15 @@ module _ (schema : Schema) (db : Trees) (it : IsSound schema db) where
       (and_parts _ _ (and_parts _ _ (and_parts _ _ fits).1).0).0 in
       names_agree name (codes "sqlite_schema") ∙ not-true _ (and_parts _ _ (rw is at own)).1
 
-  no_such_table : table_named schema (codes "sqlite_schema") ≡ None
-  no_such_table = none_at _ 0 schema.tables (all_from _ schema.tables (λ t has.
-      let row = listed_row IsTableRow is_table_row _ schema.tables it.lists.listed.tables t has in
-      free row.0 t.name row.1 row.3.described.name_is))
-
-  no_such_view : view_named schema (codes "sqlite_schema") ≡ None
-  no_such_view = none_at _ 0 schema.views (all_from _ schema.views (λ w has.
-      let row = listed_row IsViewRow is_view_row _ schema.views it.lists.listed.views w has in
-      free row.0 w.name row.1 row.3.described.name_is))
-
   -- SQLite reads the list of objects for this text
   lists : (reads_listing schema list_objects_sql ≡ true)
       × (understood schema list_objects_sql ≡ if_select (compiled listing_schema list_objects_sql))
   unfolding understood
-  lists = let misses = select_misses list_is schema no_such_table no_such_view in (rw misses, rw misses)
+  lists =
+      let no_table : table_named schema (codes "sqlite_schema") ≡ None =
+      search (arith, none_at, all_from, listed_row, free) in
+      let misses = select_misses list_is schema no_table (search (arith, none_at, all_from, listed_row, free)) in
+      (rw misses, rw misses)
 
 list_means : (command_of (if_select (compiled listing_schema list_objects_sql))
     ≡ Selects (program_of (all_query 0 (col 1 2 ∷ col 1 1 ∷ col 1 5 ∷ [])))
@@ -260,8 +225,7 @@ unfolding everything listing_schema
 list_means = (refl, (refl, refl))
 
 text_is : (v : Value) (text : List ℕ) → is_text v text ≡ true → v ≡ Text text
-text_is (Text t) text h = ap Text ((bytes_eq-Decides t text).0 h)
-text_is _ text h = absurd cc
+text_is value text is = search rules
 
 abbrev line : Row → Row
 line r = column r 2 ∷ column r 1 ∷ column r 5 ∷ []
@@ -275,11 +239,11 @@ module _ (old new : State) (rows : List Row) (sound : IsDatabase old.now)
       let means = lists old.now.schema old.now.trees sound in
       let known : if_select (compiled listing_schema list_objects_sql) ≡ Ok h.0 = sym means.1 ∙ h.1.is in
       let bare = subst IsPlain known list_means.1 in
-      let it = rw (bare.0, bare.1) at h.2 in
-      let source = subst (λ b. IsSourceOf b old.now it.0) means.0 it.1 in
-      let reads = subst (λ k. Reads k it.0 [] rows) (ap command_of (sym known) ∙ list_means.0) it.2 in
+      let shows = rw (bare.0, bare.1) at h.2 in
+      let source = subst (λ b. IsSourceOf b old.now shows.0) means.0 shows.1 in
+      let reads = subst (λ k. Reads k shows.0 [] rows) (ap command_of (sym known) ∙ list_means.0) shows.2 in
       list_any-IsPermutation test (map line (catalog_rows old.now.trees)) rows
-      (rw source.1 at (shows_all it.0.trees (reads.answer Null)))
+      (rw source.1 at (shows_all shows.0.trees (reads.answer Null)))
 
   module _ (name text : List ℕ) where
     -- what the query shows is listed
@@ -298,7 +262,7 @@ module _ (old new : State) (rows : List Row) (sound : IsDatabase old.now)
     pub shows_line : HasCatalogText old.now.trees name text → list_any (is_catalog_row name text) rows ≡ true
     shows_line it = sym (lists_as (is_catalog_row name text))
         ∙ some_from _ _ (line it.row) (mapped_has line (catalog_rows old.now.trees) it.row it.listed)
-        (rw (it.name_is, it.sql, (bytes_eq-Decides name name).1 refl, (bytes_eq-Decides text text).1 refl) refl)
+        (search (arith, bytes_eq-Decides))
 
 -- the query is plain under any sound database
 pub listing_plain : (db : Database) → IsDatabase db → IsPlain (understood db.schema list_objects_sql)

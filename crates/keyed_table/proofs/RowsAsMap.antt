@@ -2,15 +2,15 @@
 use Rattle.keyed_table.proofs.Common.{append-nil, ◌++◌, ◌≡◌, ◌≢◌, ℕ, pos, true, false, not, List, [], ◌∷◌, map, length}
 use Rattle.keyed_table.proofs.Common.{Some, None, Option, refl, sym, ap, ◌∙◌, ◌⊎◌, inl, inr, ◌<◌, ℤ, filter, arith}
 use Rattle.keyed_table.proofs.Common.{nat_cmp, is_eq, IsPermutation, Bool, ◌&&◌, entries, empty, len, get, insert}
-use Rattle.keyed_table.proofs.Common.{remove, FinMap, false_from_ne_true, cases_Bool, IsPermutation-sym}
-use Rattle.keyed_table.proofs.Common.{IsPermutation-trans, length_permutation, IsPermutation-map, same_rowid, all_from}
-use Rattle.keyed_table.proofs.Common.{all_has, has_right, without_all, AllByRecursion, flat_map, AllZip, nat_cmp_total}
-use Rattle.keyed_table.proofs.Common.{ints, nat_tests, length-map, Int, Null, Row, value_cmp-Int, IsTable, put_row}
-use Rattle.keyed_table.proofs.Common.{rowid, Trees, all-permutation, all-filter, all_both, all_weaker, map-map}
-use Rattle.keyed_table.proofs.Common.{ascending-map, HasKey, are_tied, AreKeyed, map_of, Collation, Binary, IsAnswer}
-use Rattle.keyed_table.proofs.Common.{overlay, eval_all, from_truth, count, Compare, rows_query, lookup_params}
-use Rattle.keyed_table.proofs.Common.{find_query, all_query, count_others_query}
-use Rattle.std.proofs.Common.{Less, int_cmp, Equal, Greater, cond, Ordering}
+use Rattle.keyed_table.proofs.Common.{remove, FinMap, cases_Bool, IsPermutation-sym, IsPermutation-trans}
+use Rattle.keyed_table.proofs.Common.{length_permutation, IsPermutation-map, same_rowid, all_from, all_has, has_right}
+use Rattle.keyed_table.proofs.Common.{without_all, AllByRecursion, flat_map, AllZip, nat_cmp_total, ints, nat_tests}
+use Rattle.keyed_table.proofs.Common.{length-map, Int, Row, value_cmp-Int, IsTable, put_row, rowid, Trees}
+use Rattle.keyed_table.proofs.Common.{all-permutation, all-filter, all_both, all_weaker, map-map, ascending-map, HasKey}
+use Rattle.keyed_table.proofs.Common.{are_tied, AreKeyed, map_of, Collation, Binary, IsAnswer, overlay, eval_all}
+use Rattle.keyed_table.proofs.Common.{from_truth, count, Compare, rows_query, lookup_params, find_query, all_query}
+use Rattle.keyed_table.proofs.Common.{count_others_query, false_from_ne_true, Null}
+use Rattle.std.proofs.Common.{Less, int_cmp, cond, Ordering}
 use Rattle.std.specs.FinMap.{get-empty, put, len-entries, len-empty, entries-insert, same_map, nat_cmp-IsAntisymmetric}
 use Rattle.std.specs.FinMap.{get-insert, get-remove}
 use Rattle.std.proofs.lemmas.List.Sorted.{IsPermutation-append_right, IsPermutation-refl, IsPermutation-cons}
@@ -19,7 +19,7 @@ use Rattle.sqlite_catalog.proofs.LayoutLemmas.{ascending_filter}
 use Rattle.sqlite_rules.proofs.ActionLemmas.{nil_from_length}
 use Rattle.sqlite_rules.specs.Edit.{put_all}
 use Rattle.std.specs.List.{list_all}
-use Rattle.std.specs.Ordering.{eq_by_cmp, match_ordering, is_ne, ordering_then}
+use Rattle.std.specs.Ordering.{eq_by_cmp, is_ne}
 use Rattle.std.proofs.lemmas.Cmp.{tied_itself}
 use Rattle.std.proofs.lemmas.List.Folds.{fold_along}
 use Rattle.sqlite.specs.Order.{value_cmp}
@@ -36,7 +36,7 @@ use Rattle.sqlite_sql.specs.Term.{Term, Env, eval, holds, lit, col, op2}
 use Rattle.sqlite_sql.specs.Ops.{binary, is_true, test}
 use Rattle.sqlite_sql.specs.Group.{IsSummary}
 use Rattle.sqlite_sql.specs.declared.ops.CompareOp.{CompareOp}
-use Rattle.sqlite_sql.specs.declared.ops.CompareOp.TheVariants.{Eq, Ne}
+use Rattle.sqlite_sql.specs.declared.ops.CompareOp.TheVariants.{Eq}
 use Rattle.sqlite_sql.proofs.QueryLemmas.{output_cmp_total}
 use Rattle.sqlite_keyed.proofs.SortLemmas.{sorted_unique}
 use Rattle.sqlite.proofs.Callers.{one_permutation}
@@ -49,13 +49,9 @@ untied a b h = sym ((eq_by_cmp_equiv value_cmp_total).symm (rowid a) (rowid b)) 
 put_permutes : (new : Row) (rows : List Row) → HasNewKey new rows → IsPermutation (new ∷ rows) (put_row new rows)
 put_permutes new [] free = IsPermutation-refl (new ∷ [])
 put_permutes new (r ∷ rows) free =
-    elim (value_cmp (rowid r) (rowid new)) as (λ o. is_eq o ≡ false
-    → IsPermutation (new ∷ r ∷ rows) (match_ordering o (r ∷ put_row new rows) (new ∷ rows) (new ∷ r ∷ rows))) [
-      | Less ↦ λ other. IsPermutation-trans _ _ _ (IsPermutation-middle (new ∷ []) r rows)
-          (IsPermutation-cons r _ _ (put_permutes new rows free.1))
-      | Equal ↦ λ other. absurd (let e = other in cc)
-      | Greater ↦ λ other. IsPermutation-refl (new ∷ r ∷ rows)
-    ] free.0
+    let later = IsPermutation-trans _ _ _ (IsPermutation-middle (new ∷ []) r rows)
+    (IsPermutation-cons r _ _ (put_permutes new rows free.1)) in
+    grind (arith, IsPermutation-refl)
 
 pub key_is : (row : Row) (it : HasKey row) → key_in row ≡ it.id
 key_is row it = ap natural_in it.id_is
@@ -69,28 +65,25 @@ pub apart_from : (rows : List Row) → AllByRecursion HasKey rows → RowidsDiff
 apart_from [] all differ = tt
 apart_from (row ∷ rows) all differ = (
   all_both HasKey (λ r. rowid row ≢ rowid r) (λ r. are_tied row r ≡ false)
-      (λ r it other. false_from_ne_true _ (λ tie.
-      let same = same_rowid row all.0.id it.id all.0.id_is (rw it.id_is at tie) in
-      other (all.0.id_is ∙ ap (λ n. Int (pos n)) same ∙ sym it.id_is))) rows all.1 differ.0,
+      (λ r key other. false_from_ne_true _ (λ tie.
+      let same = same_rowid row all.0.id key.id all.0.id_is (rw key.id_is at tie) in
+      other (all.0.id_is ∙ ap (λ n. Int (pos n)) same ∙ sym key.id_is))) rows all.1 differ.0,
   apart_from rows all.1 differ.1,
 )
 
 pub differ_from : (rows : List Row) → RowidsAreUntied rows → RowidsDiffer rows
-differ_from = ascending_weaker (λ a b. are_tied a b ≡ false) (λ a b. rowid a ≢ rowid b) (λ a b other same.
-    absurd (let tie : are_tied a b ≡ true = rw (same, tied_itself value_cmp_total (rowid b)) refl in cc))
+differ_from = ascending_weaker (λ a b. are_tied a b ≡ false) (λ a b. rowid a ≢ rowid b)
+    (search (arith, tied_itself, value_cmp_total))
 
 pub key_below : (a b : Row) → HasKey a → HasKey b → value_cmp (rowid a) (rowid b) ≡ Less → key_in a < key_in b
-key_below a b x y h =
-    let e : int_cmp (pos x.id) (pos y.id) ≡ Less =
-    sym (value_cmp-Int (pos x.id) (pos y.id)) ∙ rw (x.id_is, y.id_is) at h in
+key_below a b x y below =
+    let less : int_cmp (pos x.id) (pos y.id) ≡ Less =
+    sym (value_cmp-Int (pos x.id) (pos y.id)) ∙ rw (x.id_is, y.id_is) at below in
     rw (key_is a x, key_is b y) (grind (arith, ints, nat_tests))
 
 -- deletions leave the rows keyed
 pub keyed_without : (rows : List Row) (id : ℤ) → AreKeyed rows → AreKeyed (without_rowid id rows)
-keyed_without rows id keyed = record {
-  keys = all-filter HasKey (λ r. not (has_rowid id r)) rows keyed.keys;
-  apart = ascending_filter (λ a b. are_tied a b ≡ false) (λ r. not (has_rowid id r)) rows keyed.apart;
-}
+keyed_without rows id keyed = search (all-filter, ascending_filter)
 
 pub keyed_without_all : (rows : List Row) (gone : List ℤ) → AreKeyed rows → AreKeyed (without_all rows gone)
 keyed_without_all rows [] keyed = keyed
@@ -108,39 +101,29 @@ module _ {V : Type 0} where
 
 module _ {V : Type 0} (value : Row → V) where
   -- the rows in another order; if they are keyed, their map is the same
-  abbrev Alike : List Row → List Row → Type 0
-  Alike xs ys = IsPermutation xs ys × (AreKeyed xs → AreKeyed ys × (map_of value xs ≡ map_of value ys))
+  abbrev HaveSameMap : List Row → List Row → Type 0
+  HaveSameMap xs ys = IsPermutation xs ys × (AreKeyed xs → AreKeyed ys × (map_of value xs ≡ map_of value ys))
 
-  alike : (xs ys : List Row) → IsPermutation xs ys → Alike xs ys
-  alike = along_permutation Alike (λ xs. (IsPermutation-refl xs, λ keyed. (keyed, refl)))
+  permutation_keeps_map : (xs ys : List Row) → IsPermutation xs ys → HaveSameMap xs ys
+  permutation_keeps_map = along_permutation HaveSameMap (search IsPermutation-refl)
       (λ x xs ys h. (
         IsPermutation-cons x xs ys h.0,
         λ keyed.
             let rest = h.1 (record { keys = keyed.keys.1; apart = keyed.apart.1 }) in
-            let apart = all-permutation (λ b. are_tied x b ≡ false) xs ys h.0 keyed.apart.0 in (
-              record { keys = (keyed.keys.0, rest.0.keys); apart = (apart, rest.0.apart) },
-              ap (λ m. insert m (key_in x) (value x)) rest.1,
-            ),
+            let apart = all-permutation (λ b. are_tied x b ≡ false) xs ys h.0 keyed.apart.0 in
+            search,
       ))
       (λ x y xs. (
         IsPermutation-middle (x ∷ []) y xs,
         λ keyed.
-            let apart = keyed.apart in
-            let keys = keyed.keys in
-            let turned : RowidsAreUntied (y ∷ x ∷ xs) = ((untied x y apart.0.0, apart.1.0), (apart.0.1, apart.1.1)) in
-            let own : rowid y ≡ Int (pos (key_in y)) = rw (key_is y keys.1.0) keys.1.0.id_is in
-            let other = sym (is_at (key_in y) x keys.0) ∙ rw own at apart.0.0 in (
-              record { keys = (keys.1.0, (keys.0, keys.1.1)); apart = turned },
-              same _ _ (λ q. simp looks (grind (arith, nat_tests))),
-            ),
+            let own : rowid y ≡ Int (pos (key_in y)) = rw (key_is y keyed.keys.1.0) keyed.keys.1.0.id_is in
+            let other = sym (is_at (key_in y) x keyed.keys.0) ∙ rw own at keyed.apart.0.0 in
+            (search untied, same _ _ (λ q. simp looks (grind (arith, nat_tests)))),
       ))
-      (λ xs ys zs p q. (
-        IsPermutation-trans xs ys zs p.0 q.0,
-        λ keyed. let mid = p.1 keyed in let last = q.1 mid.0 in (last.0, mid.1 ∙ last.1),
-      ))
+      (λ xs ys zs first second. search (arith, IsPermutation-trans))
 
 pub keyed_turned : (xs ys : List Row) → IsPermutation xs ys → AreKeyed xs → AreKeyed ys
-keyed_turned xs ys turn keyed = ((alike key_in xs ys turn).1 keyed).0
+keyed_turned xs ys turn keyed = ((permutation_keeps_map key_in xs ys turn).1 keyed).0
 
 -- the rows in ascending order of rowid
 abbrev pub ranked : List Row → List Row
@@ -164,23 +147,21 @@ ranked_permutes rows keyed = rw append-nil at (puts rows [] (rw append-nil keyed
 
 module _ {V : Type 0} (value : Row → V) where
   pub same_map_of : (xs ys : List Row) → IsPermutation xs ys → AreKeyed xs → map_of value xs ≡ map_of value ys
-  same_map_of xs ys turn keyed = ((alike value xs ys turn).1 keyed).1
+  same_map_of xs ys turn keyed = ((permutation_keeps_map value xs ys turn).1 keyed).1
 
-  pub put_alike : (new : Row) (rows : List Row) → HasKey new → HasNewKey new rows → AreKeyed rows
+  pub put_keeps_map : (new : Row) (rows : List Row) → HasKey new → HasNewKey new rows → AreKeyed rows
       → AreKeyed (put_row new rows)
       × (insert (map_of value rows) (key_in new) (value new) ≡ map_of value (put_row new rows))
-  put_alike new rows key free keyed = (alike value (new ∷ rows) (put_row new rows) (put_permutes new rows free)).1
-      (record { keys = (key, keyed.keys); apart = (all_weaker _ _ (λ r. untied r new) rows free, keyed.apart) })
+  put_keeps_map new rows key free keyed = (permutation_keeps_map value (new ∷ rows) (put_row new rows)
+      (put_permutes new rows free)).1 (search (all_weaker, untied))
 
   pub map_without : (rows : List Row) (id : ℕ) → AllByRecursion HasKey rows
       → map_of value (without_rowid (pos id) rows) ≡ remove (map_of value rows) id
   map_without [] id all = sym (remove_absent empty id (get-empty nat_cmp id))
   map_without (row ∷ rows) id all =
-      let rest = map_without rows id all.1 in
       rw (is_at id row all.0) (elim (cases_Bool (eq_by_cmp nat_cmp id (key_in row))) [
-        | inl tie ↦ rw tie (rest ∙ same _ _ (λ q. simp looks (grind (arith, nat_tests))))
-        | inr apart ↦ rw apart (ap (λ m. insert m (key_in row) (value row)) rest
-            ∙ same _ _ (λ q. simp looks (grind (arith, nat_tests))))
+        | inl tie ↦ rw (tie, map_without rows id all.1) (same _ _ (λ q. simp looks (grind (arith, nat_tests))))
+        | inr apart ↦ rw (apart, map_without rows id all.1) (same _ _ (λ q. simp looks (grind (arith, nat_tests))))
       ])
 
   -- an insertion has the same result if rows with its key are deleted first
@@ -207,7 +188,7 @@ module _ {V : Type 0} (value : Row → V) where
         | inl here ↦
             let is : rowid row ≡ Int (pos id) =
             rw (same_rowid row keyed.keys.0.id id keyed.keys.0.id_is (own ∙ here)) at keyed.keys.0.id_is in
-            let none : filter (has_rowid (pos id)) rows ≡ [] = filter_none (has_rowid (pos id)) rows
+            let none = filter_none (has_rowid (pos id)) rows
             (rw is at (all_weaker _ (λ r. are_tied r row ≡ false) (λ r. untied row r) rows keyed.apart.0)) in
             inr (row, rw here at at, rw (own ∙ here, none), is)
         | inr other ↦
@@ -222,8 +203,7 @@ module _ {V : Type 0} (value : Row → V) where
       → put nat_cmp (key_in row) (value row) (map (entry_of value) rows) ≡ map (entry_of value) (row ∷ rows)
   put_first row [] key all low = refl
   put_first row (r ∷ rows) key all low =
-      let below = key_below row r key all.0 low.0 in
-      let less : nat_cmp (key_in row) (key_in r) ≡ Less = grind (arith, nat_tests) in rw less
+      let below = key_below row r key all.0 low.0 in grind (arith, nat_tests)
 
   -- the map of rows in ascending order has the entries of the rows, in the same order
   entries_are : (rows : List Row) → AllByRecursion HasKey rows → IsTable rows
@@ -236,15 +216,12 @@ module _ {V : Type 0} (value : Row → V) where
   pub entries_ranked : (rows : List Row) → AreKeyed rows
       → entries (map_of value rows) ≡ map (entry_of value) (ranked rows)
   entries_ranked rows keyed =
-      let up = (alike value rows (ranked rows) (ranked_permutes rows keyed)).1 keyed in
+      let up = (permutation_keeps_map value rows (ranked rows) (ranked_permutes rows keyed)).1 keyed in
       ap entries up.1 ∙ entries_are (ranked rows) up.0.keys (ranked_rises rows)
 
   -- there are as many entries as rows
   pub len_is : (rows : List Row) → AreKeyed rows → len (map_of value rows) ≡ length rows
-  len_is rows keyed =
-      len-entries (map_of value rows) ∙ ap length (entries_ranked rows keyed)
-      ∙ length-map (ranked rows) (entry_of value)
-      ∙ length_permutation rows (ranked rows) (ranked_permutes rows keyed)
+  len_is rows keyed = search (len-entries, entries_ranked, length-map, length_permutation, ranked_permutes)
 
 -- the row beside the parameters
 abbrev pub env_of : Row → Row → Env
@@ -259,10 +236,7 @@ passing : (tests : List Term) (params : Row) (test : Row → Bool) (rows : List 
     → flat_map (λ r. cond (passes tests params r) (env_of params r ∷ []) []) rows
     ≡ map (env_of params) (filter test rows)
 passing tests params test [] all = refl
-passing tests params test (r ∷ rows) all = elim (cases_Bool (test r)) [
-  | inl is ↦ rw (all.0, is) (ap (λ es. env_of params r ∷ es) (passing tests params test rows all.1))
-  | inr not ↦ rw (all.0, not) (passing tests params test rows all.1)
-]
+passing tests params test (r ∷ rows) all = grind (arith, passing tests params test rows all.1)
 
 -- what a row is sorted by, and what it shows
 abbrev out : List Term → List (Term × Key) → Row → Row → Output
@@ -310,24 +284,22 @@ module _ {d : ℕ} {shown : List Term} {collations : List Collation} {order : Li
     where
       single : (rs : List Row) → map (λ r. eval_all shown (env_of params r)) rs ≡ row ∷ []
           → (r : Row) × (rs ≡ r ∷ []) × (row ≡ eval_all shown (env_of params r))
-      single [] e = absurd (cc)
       single (r ∷ []) e = (r, refl, cc)
-      single (r ∷ s ∷ more) e = absurd (cc)
+      single rs e = absurd cc
 
 -- a summary that counts
 one_row : (order : List Env) (rows : List Row) → AllZip (IsSummary count_rows) (order ∷ []) rows
     → rows ≡ (count (length order) ∷ []) ∷ []
-one_row order [] z = absurd z
 one_row order (r ∷ []) (([], values, is), _) = absurd values
 one_row order (r ∷ []) ((v ∷ [], values, is), _) =
-    let e : count (length (map (eval (lit Null)) order)) ≡ v = (let f = values.0 in cc) in
-    rw (is, ← e, length-map order (eval (lit Null)))
+    let counted : count (length (map (eval (lit Null)) order)) ≡ v = (let f = values.0 in cc) in
+    rw (is, ← counted, length-map order (eval (lit Null)))
 one_row order (r ∷ []) ((v ∷ w ∷ more, values, is), _) = absurd values.1
-one_row order (r ∷ s ∷ more) z = absurd z.1
+one_row order [] summaries = absurd summaries
+one_row order (r ∷ s ∷ more) summaries = absurd summaries.1
 
 pub truth_alone : (b : Bool) → (is_true (from_truth (Some b)) && true) ≡ b
-truth_alone true = refl
-truth_alone false = refl
+truth_alone b = search arith
 
 compared : (op : CompareOp) (row : Row) (id : ℕ) (it : HasKey row)
     → list_all (holds (env_of (lookup_params id) row)) (op2 (Compare op Binary) (col 1 0) (col 0 0) ∷ [])
@@ -336,7 +308,7 @@ unfolding binary
 compared op row id it = rw it.id_is (truth_alone (test op (value_cmp (Int (pos it.id)) (Int (pos id)))))
 
 differs : (o : Ordering) → is_ne o ≡ not (is_eq o)
-differs o = elim o as (λ o. is_ne o ≡ not (is_eq o)) [ Less ↦ refl | Equal ↦ refl | Greater ↦ refl ]
+differs o = grind arith
 
 module _ {V : Type 0} (value : Row → V) (d : ℕ) (db : Trees) (keyed : AreKeyed (db d)) where
   -- the row of the key, or none
@@ -358,12 +330,11 @@ module _ {V : Type 0} (value : Row → V) (d : ℕ) (db : Trees) (keyed : AreKey
       let q = all_query d shown in
       let o = out shown q.order [] in
       let up = ranked (db d) in
-      let same : IsPermutation (map o up) a.ordered = IsPermutation-trans _ _ _ (IsPermutation-map o up (db d)
-      (IsPermutation-sym (db d) up (ranked_permutes (db d) keyed))) (rw (kept_all db a) at a.same) in
+      let same : IsPermutation (map o up) a.ordered =
+      search (IsPermutation-trans, IsPermutation-map, IsPermutation-sym, ranked_permutes, kept_all) in
       let ordered : a.ordered ≡ map o up = sorted_unique (output_cmp q) (output_cmp_total q) (map o up) a.ordered
-      (ascending-map _ o up (ascending_weaker (λ a b. value_cmp (rowid a) (rowid b) ≡ Less) _
-      (λ a b low. ap (λ o. ordering_then o Equal) low) up (ranked_rises (db d)))) same a.sorted in
-      a.shown ∙ ap (map (λ (p : Output). p.1)) ordered ∙ map-map _ _ up
+      (search (arith, ascending-map, ascending_weaker, ranked_rises)) same a.sorted in
+      search (arith, map-map)
 
   -- the number of rows with other keys
   pub counts : (id : ℕ) (rows : List Row) → IsAnswer (count_others_query d) (overlay db []) (lookup_params id) rows
@@ -373,7 +344,7 @@ module _ {V : Type 0} (value : Row → V) (d : ℕ) (db : Trees) (keyed : AreKey
       let g = a.grouped in
       let order = g.grouping.0 in
       let passed = passing (key_differs_from_param ∷ []) (lookup_params id) (λ r. not (has_rowid (pos id) r)) (db d)
-      (all_weaker HasKey _ (λ r it. compared Ne r id it ∙ differs _) (db d) keyed.keys) in
+      (search (all_weaker, compared, differs)) in
       let all_read = ap (λ (trees : Trees). trees d) (none_given db) in
       let n : length order ≡ length others = length_permutation _ order (rw (all_read, passed) at g.grouping.1)
       ∙ length-map others (env_of (lookup_params id)) in

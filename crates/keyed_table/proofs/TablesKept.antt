@@ -1,25 +1,24 @@
 -- CREATE, DROP and writes of other tables keep the rows of a table. After CREATE a table holds the empty map; a table
 -- that an open finds holds the map of its rows.
-use Rattle.keyed_table.proofs.Common.{and_left, and_right, or_from, false_from_ne_true, both_ways, ne_eqb, not-true}
-use Rattle.keyed_table.proofs.Common.{same_itself, ParsesAs, CompilesTo, statement_of, runs_as, DropTable, Tally}
-use Rattle.keyed_table.proofs.Common.{lacks_sequence, Database, IsDatabase, understood, Schema, Table, Term}
-use Rattle.keyed_table.proofs.Common.{zipped_left, next_tree, is_used, IsIndexRow, all_from, has_got, has_left}
-use Rattle.keyed_table.proofs.Common.{some_from, has_filtered, has_kept, has_right, all_has, same_name, table_named}
-use Rattle.keyed_table.proofs.Common.{view_named, all_weaker, all-filter, codes, List, [], ◌∷◌, length, true, arith}
-use Rattle.keyed_table.proofs.Common.{refl, sym, ap, ◌∙◌, is_some, false, None, Some, Ok, not, ◌&&◌, ◌≡◌, ℕ, ◌==◌, inl}
-use Rattle.keyed_table.proofs.Common.{inr, Bool, if◌then◌else◌, subst, ◌≢◌, nat_le, ◌^◌, option_map, Err, Result, OnOk}
-use Rattle.keyed_table.proofs.Common.{nat_cmp, nat_tests, row_classes, Index, AllByRecursion, position_from, list_any}
-use Rattle.keyed_table.proofs.Common.{HasNoReferenceTo, TreeHasName, AdmitsTable, Keys, any_from_none, Has, IsLone, Row}
-use Rattle.keyed_table.proofs.Common.{State, Executes, mode_of, Error, FinMap, empty, Codec, table_of, AreMap, HoldsMap}
+use Rattle.keyed_table.proofs.Common.{slice_get, and_left, and_right, or_from, same_itself, ParsesAs, CompilesTo}
+use Rattle.keyed_table.proofs.Common.{statement_of, runs_as, DropTable, Tally, lacks_sequence, Database, IsDatabase}
+use Rattle.keyed_table.proofs.Common.{understood, Schema, Table, Term, zipped_left, next_tree, is_used, all_from}
+use Rattle.keyed_table.proofs.Common.{has_got, has_left, some_from, has_filtered, has_kept, has_right, all_has}
+use Rattle.keyed_table.proofs.Common.{same_name, table_named, view_named, all_weaker, all-filter, codes, List, [], ◌∷◌}
+use Rattle.keyed_table.proofs.Common.{length, true, arith, refl, sym, ap, ◌∙◌, is_some, false, None, Some, Ok, not}
+use Rattle.keyed_table.proofs.Common.{◌&&◌, ◌≡◌, ℕ, ◌==◌, inl, inr, Bool, subst, ◌≢◌, nat_le, ◌^◌, option_map, Err}
+use Rattle.keyed_table.proofs.Common.{Result, OnOk, nat_cmp, nat_tests, row_classes, Index, AllByRecursion}
+use Rattle.keyed_table.proofs.Common.{position_from, list_any, HasNoReferenceTo, TreeHasName, AdmitsTable, Keys}
+use Rattle.keyed_table.proofs.Common.{any_from_none, Has, IsLone, Row, State, Executes, Error, FinMap, empty, Codec}
+use Rattle.keyed_table.proofs.Common.{table_of, AreMap, HoldsMap}
 use Rattle.std.proofs.lemmas.Bool.{MatchBool-at_false, and_cases, not-false, not_from_true, eq-eqb, eqb-true}
 use Rattle.sqlite_catalog.proofs.StepLemmas.{no_table, table_below, no_index as no_index_of, no_view as no_view_of}
-use Rattle.keyed_table.proofs.KeyedMap.{went, same_value, task_of, table_low, SparesOthers}
-use Rattle.keyed_table.proofs.Statements.{ready_with}
+use Rattle.keyed_table.proofs.KeyedMap.{went, same_value, table_low, SparesOthers}
 use Rattle.keyed_table.proofs.TextMeaning.{means, understood_as}
 use Rattle.sqlite.specs.Command.TheVariants.{CreateTable}
 use Rattle.sqlite_resolve.specs.Compile.{table_defined_by, timed, returning, command, create_table, creates}
 use Rattle.sqlite_resolve.specs.Compile.{is_attached, is_reserved}
-use Rattle.sqlite.specs.Does.{MakesTable, sequence_text, UncountsIn, is_acted_on}
+use Rattle.sqlite.specs.Does.{is_acted_on}
 use Rattle.sqlite.specs.Rows.{sequence}
 use Rattle.sqlite_catalog.proofs.LayoutLemmas.{index_owner}
 use Rattle.sqlite_catalog.proofs.ListFacts.{none_placed}
@@ -68,14 +67,6 @@ none_in : {X : Type 0} (test : X → Bool) (xs : List X) → position_from test 
     → AllByRecursion (λ x. test x ≡ false) xs
 none_in test xs none = all_from _ xs (λ x. none_placed test xs 0 x none)
 
--- a name that no table, index or view of the schema has is unused
-unnamed : (schema : Schema) (name : List ℕ) → AllByRecursion (λ t. same_name t.name name ≡ false) schema.tables
-    → AllByRecursion (λ i. same_name i.name name ≡ false) schema.indexes
-    → AllByRecursion (λ w. same_name w.name name ≡ false) schema.views → is_used schema name ≡ false
-unnamed schema name tables indexes views = or_from _ _
-    (or_from _ _ (ap is_some (none_at _ 0 schema.tables tables)) (ap is_some (none_at _ 0 schema.indexes indexes)))
-    (ap is_some (none_at _ 0 schema.views views))
-
 -- in a sound database, a table that no other object affects is found by its name, at some index of the schema
 pub lone_stands : (db : Database) → IsDatabase db → {name : List ℕ} {table : Table} → IsLone db.schema name table
     → (at : ℕ) × IsTableAt db.schema name table at
@@ -85,9 +76,8 @@ lone_stands db sound {name} {table} it =
     let low = table_low db sound table it.listed in
     let stored : nat_le (2 ^ 31) table.tree ≡ false = grind (arith, nat_tests, low) in
     let classes = ap (option_map row_classes) (find_only (λ t. t.tree == table.tree) db.schema.tables table it.listed
-    (eq-eqb _ _ refl) (λ t there same. only t there
-    (all_has (TreeHasName name table.tree) db.schema.tables t it.keeps there (eqb-true _ _ same)))) in
-    (at.0, record { named = at.1; there = at.2; classes = rw stored classes })
+    (eq-eqb _ _ refl) (search (arith, all_has, eqb-true))) in
+    (at.0, search)
 
 -- the table exists, no other object affects it, and it has these rows
 pub record HoldsRows (table : Table) (rows : List Row) (db : Database) : Type 0 where
@@ -114,7 +104,7 @@ module _ {before : Database} (after : Database) (schema : after.schema ≡ befor
 sequence_is : (schema : Schema) → is_some (sequence schema)
     ≡ list_any (λ t. same_name t.name (codes "sqlite_sequence")) schema.tables
 sequence_is schema = elim (none_or_some (table_named schema (codes "sqlite_sequence"))) [
-  | inl none ↦ rw none (sym (any_from_none _ schema.tables (none_in _ schema.tables none)))
+  | inl none ↦ search (arith, any_from_none, none_in)
   | inr (at, is) ↦ let found = found_at _ at schema.tables is in
       rw (is, found.1, some_from _ schema.tables found.0 (has_got schema.tables at found.0 found.1) found.2)
 ]
@@ -142,17 +132,14 @@ pub executed_creates : {table : Table} {sql : List ℕ} → IsCreateText table s
     → Executes sql [] old new (Ok count) → IsCreated table old.now new.now
 executed_creates {table} {sql} text uncounted old new count unused sequenced ran =
     let makes = text.makes old.now.schema unused in
-    let it = runs_as sql [] old new old.now.schema refl CreateTable makes.0.is makes.0.is_plain count ran in
-    let made = went it.changed in
+    let result = runs_as sql [] old new old.now.schema refl CreateTable makes.0.is makes.0.is_plain count ran in
+    let made = went result.changed in
     let both = went made.1 in
     let defined = subst (λ t. table_defined_by t ≡ Ok both.1.table) makes.1 both.1.defined in
-    let is : both.0.schema ≡ created old.now.schema table =
-    both.1.is ∙ ap (created old.now.schema) (same_value (sym defined ∙ text.table_is)) in
-    let same : made.0 ≡ both.0 =
-    same_value (MatchBool-at_false (MakesTable sequence_text both.0 (Ok made.0)) _ (ap lacks_sequence is
-    ∙ still_counted old.now.schema table uncounted sequenced) both.2) in
+    let is : both.0.schema ≡ created old.now.schema table = cc (defined, text.table_is, both.1.is) in
+    let same : made.0 ≡ both.0 = search (arith, same_value, MatchBool-at_false, still_counted) in
     let now = ap (λ (p : Tally × Database). p.1) (same_value made.2) ∙ same in
-    record { schema_is = rw now is; empty = rw now both.1.empty; others = rw now both.1.others; sound = it.sound }
+    record { schema_is = rw now is; empty = rw now both.1.empty; others = rw now both.1.others; sound = result.sound }
 
 module _ {name : List ℕ} {columns : List Column} {checks : List Term} {old new : Database}
     (it : IsCreated (keyed_table name 0 columns checks) old new) where
@@ -172,48 +159,29 @@ module _ {name : List ℕ} {columns : List Column} {checks : List Term} {old new
   created_apart table has e = let low = table_below old.schema table has in omega (arith, low, e)
 
   pub created_is_kept : (table : Table) → Has old.schema.tables table → IsKept old new table
-  created_is_kept table has = record {
-    listed = rw it.schema_is (has_left old.schema.tables (new_table ∷ []) table has);
-    same = all_has (λ (t : Table). new.trees t.tree ≡ old.trees t.tree) old.schema.tables table it.others has;
-  }
+  created_is_kept table has = search (arith, has_left, all_has)
 
   pub created_keeps : {table : Table} {rows : List Row} → HoldsRows table rows old → HoldsRows table rows new
-  created_keeps {table} h =
-      let lone = h.lone in
-      let kept = created_is_kept table lone.listed in record {
-        lone = record {
-          listed = kept.listed;
-          named = lone.named;
-          keeps = created_all (TreeHasName table.name table.tree) lone.keeps (λ e. absurd (created_apart table
-              lone.listed (sym e)));
-          unreferenced = created_all (HasNoReferenceTo table.name) lone.unreferenced tt;
-          unindexed = same_indexes _ lone.unindexed;
-        };
-        rows_are = kept.same ∙ h.rows_are;
-      }
+  created_keeps {table} h = search (arith, created_is_kept, created_all, created_apart, same_indexes)
 
   pub created_holds : IsDatabase old → AllByRecursion (HasNoReferenceTo name) old.schema.tables
       → HoldsRows new_table [] new
-  created_holds sound unreferenced = record {
-    lone = record {
-      listed = rw it.schema_is (has_right old.schema.tables (new_table ∷ []) new_table (inl refl));
-      named = same_itself name;
-      keeps = created_all (TreeHasName name (next_tree old.schema)) (all_from _ old.schema.tables (λ table has e.
-          absurd (created_apart table has e))) (λ e. same_itself name);
-      unreferenced = created_all (HasNoReferenceTo name) unreferenced tt;
-      unindexed = same_indexes _ (all_from _ old.schema.indexes (λ i has e.
-          let row = (zipped_left (IsIndexRow old.schema.tables) _ old.schema.indexes i sound.lists.listed.indexes has).2
-          in created_apart row.table row.listed (sym (index_owner row.table i _ row.defined) ∙ e)));
-    };
-    rows_are = it.empty;
-  }
+  created_holds sound unreferenced =
+      let indexes = same_indexes (λ index. index.table ≢ next_tree old.schema)
+      (search (arith, all_from, zipped_left, created_apart, index_owner)) in
+      let listed : Has new.schema.tables new_table = search (arith, has_right) in
+      let others = all_from (TreeHasName name (next_tree old.schema)) old.schema.tables
+      (search (arith, created_apart)) in
+      search (same_itself, created_all)
 
   pub created_unused : (other : List ℕ) → same_name name other ≡ false → is_used old.schema other ≡ false
       → is_used new.schema other ≡ false
   created_unused other apart free =
       let none = unused old.schema other free in
-      unnamed new.schema other (created_all _ (none_in _ old.schema.tables none.0) apart)
-      (same_indexes _ (none_in _ old.schema.indexes none.1)) (rw it.schema_is (none_in _ old.schema.views none.2))
+      let tables = created_all _ (none_in _ old.schema.tables none.0) apart in
+      let indexes = same_indexes _ (none_in _ old.schema.indexes none.1) in
+      let views = none_in _ old.schema.views none.2 in
+      search (arith, none_at)
 
   pub created_sequence : lacks_sequence old.schema ≡ false → lacks_sequence new.schema ≡ false
   created_sequence sequenced =
@@ -230,11 +198,7 @@ pub record IsDropped (tree : ℕ) (old new : Database) : Type 0 where
 -- no foreign key acts when rows are deleted from a table that no foreign key refers to
 unacted : (schema : Schema) (keys : Keys) (table : Table) → AllByRecursion (HasNoReferenceTo table.name) schema.tables
     → is_acted_on schema keys table ≡ false
-unacted schema keys table spares = any_from_none _ schema.tables (all_weaker (HasNoReferenceTo table.name) _
-    (λ t none. any_from_none _ t.references (all_weaker (λ reference. same_name reference.parent table.name ≡ false) _
-    (λ reference other. and_left _ _ (false_from_ne_true _ (λ same.
-    let back = same_name_symmetric table.name reference.parent same in cc)))
-    t.references none)) schema.tables spares)
+unacted schema keys table spares = search (arith, any_from_none, all_weaker, same_name_symmetric)
 
 pub executed_drops : {table : Table} {rows : List Row} {sql : List ℕ} → table.is_counted ≡ false → (old new : State)
     (count : ℕ) → IsDatabase old.now → HoldsRows table rows old.now
@@ -244,22 +208,15 @@ pub executed_drops : {table : Table} {rows : List Row} {sql : List ℕ} → tabl
 executed_drops {table} {sql = sql} uncounted old new count sound h means ran =
     let schema = old.now.schema in
     let at = lone_stands old.now sound h.lone in
-    let meant = means at.0 at.1 (none_at (λ w. same_name w.name table.name) 0 schema.views
-    (no_view old.now sound table h.lone.listed table.name h.lone.named)) in
-    let it = runs_as sql [] old new schema refl (DropTable at.0) meant.is meant.is_plain count ran in
-    let emptied = went (rw at.1.there at it.changed) in
+    let meant = means at.0 at.1 (search (arith, same_name, none_at, no_view)) in
+    let result = runs_as sql [] old new schema refl (DropTable at.0) meant.is meant.is_plain count ran in
+    let emptied = went (rw at.1.there at result.changed) in
     let counts = went emptied.2 in
     let left = went (went counts.2).2 in
-    let same : counts.0 ≡ old.now.trees =
-    same_value (subst (λ b. UncountsIn (task_of schema old.step_limit (mode_of old) [] table) emptied.0 (if b then
-    sequence schema else None) (Ok counts.0)) uncounted counts.1)
-    ∙ same_value (MatchBool-at_false _ _ (unacted schema (mode_of old).keys table h.lone.unreferenced) emptied.1) in
-    let is : new.now ≡ left.0 = ap (λ (p : Tally × Database). p.1) (same_value left.2) in record {
-      schema_is = rw is left.1.0;
-      others = rw (is, left.1.0) (subst (λ was. KeepsRows (without_table schema table.tree).tables was left.0.trees)
-          same left.1.1);
-      sound = it.sound;
-    }
+    let same : counts.0 ≡ old.now.trees = search (arith, same_value, MatchBool-at_false, unacted) in
+    let is : new.now ≡ left.0 = search (arith, same_value) in
+    let others = subst (λ was. KeepsRows (without_table schema table.tree).tables was left.0.trees) same left.1.1 in
+    record { schema_is = rw is left.1.0; others = rw (is, left.1.0) others; sound = result.sound }
 
 module _ {tree : ℕ} {old new : Database} (it : IsDropped tree old new) where
   pub dropped_all : (P : Table → Type 0) → AllByRecursion P old.schema.tables → AllByRecursion P new.schema.tables
@@ -267,38 +224,20 @@ module _ {tree : ℕ} {old new : Database} (it : IsDropped tree old new) where
 
   pub dropped_is_kept : (table : Table) → Has old.schema.tables table → table.tree ≢ tree → IsKept old new table
   dropped_is_kept table has apart =
-      let listed : Has new.schema.tables table = rw it.schema_is (has_kept (λ t. not (t.tree == tree))
-      old.schema.tables table has (ap not (ne_eqb table.tree tree apart))) in record {
-        listed = listed;
-        same = all_has (λ (t : Table). new.trees t.tree ≡ old.trees t.tree) new.schema.tables table it.others listed;
-      }
+      let listed : Has new.schema.tables table = rw it.schema_is (search (arith, has_kept)) in
+      let same =
+      all_has (λ (t : Table). new.trees t.tree ≡ old.trees t.tree) new.schema.tables table it.others listed in
+      record { listed = listed; same = same }
 
   pub dropped_keeps : {table : Table} {rows : List Row} → HoldsRows table rows old → table.tree ≢ tree
       → HoldsRows table rows new
-  dropped_keeps {table} h apart =
-      let kept = dropped_is_kept table h.lone.listed apart in record {
-        lone = record {
-          listed = kept.listed;
-          named = h.lone.named;
-          keeps = dropped_all _ h.lone.keeps;
-          unreferenced = dropped_all _ h.lone.unreferenced;
-          unindexed = rw it.schema_is (all-filter _ _ old.schema.indexes h.lone.unindexed);
-        };
-        rows_are = kept.same ∙ h.rows_are;
-      }
+  dropped_keeps {table} h apart = search (arith, dropped_is_kept, all-filter)
 
 -- the name of the dropped table is free
 pub dropped_unused : {table : Table} {rows : List Row} {old new : Database} → IsDropped table.tree old new
     → IsDatabase old → HoldsRows table rows old → is_used new.schema table.name ≡ false
 dropped_unused {table} {old = old} it sound h =
-    let lone = h.lone in
-    rw it.schema_is (unnamed (without_table old.schema table.tree) table.name
-    (all_from _ _ (λ t has. false_from_ne_true _ (λ same.
-    let was = has_filtered (λ t. not (t.tree == table.tree)) old.schema.tables t has in
-    let one = one_table old sound table lone.listed table.name lone.named t was.0 same in
-    both_ways _ (not-true _ was.1) (eq-eqb _ _ (ap (λ (t : Table). t.tree) one)))))
-    (all-filter _ _ old.schema.indexes (no_index old sound table lone.listed table.name lone.named))
-    (no_view old sound table lone.listed table.name lone.named))
+    rw it.schema_is (search (arith, none_at, all_from, has_filtered, one_table, all-filter, no_index, no_view))
 
 -- ---- the first map of a table: empty after CREATE, or the map of the rows that an open finds
 
@@ -332,9 +271,10 @@ pub created_is_ready : {V : Type 0} (c : Codec V) {sql : List ℕ} → IsCreateT
 created_is_ready c text old new (Err e) idle admits sound ran = tt
 created_is_ready c {sql} text old new (Ok count) idle admits sound ran =
     let makes = text.makes old.now.schema admits.unused in
-    let it = runs_as sql [] old new old.now.schema refl CreateTable makes.0.is makes.0.is_plain count ran in
-    ready_with new new.now empty it.shown.is_open (it.shown.mode ∙ idle) (sym (rw idle at it.shown.committed_is)) refl
-    it.sound (created_map_is_empty c text old new count admits sound ran)
+    let result = runs_as sql [] old new old.now.schema refl CreateTable makes.0.is makes.0.is_plain count ran in
+    let committed = rw idle at result.shown.committed_is in
+    let holds = created_map_is_empty c text old new count admits sound ran in
+    search
 
 -- a table that is listed with the text, and that no other object affects, holds the map of its rows
 pub found_map : {V : Type 0} (c : Codec V) {sql : List ℕ} → IsCreateText (table_of c 0) sql → (db : Database)
@@ -345,12 +285,7 @@ pub found_map : {V : Type 0} (c : Codec V) {sql : List ℕ} → IsCreateText (ta
     → AreMap c (db.trees tree) m → HoldsMap c db m
 found_map c {sql} text db sound {tree} n listed keeps unreferenced unindexed rows =
     let is = defined db sound c.name tree n sql (table_of c 0) listed text.table_is in
-    let there = n.there ∙ ap Some is.0 in
-    let lone : IsLone db.schema c.name (table_of c tree) = record {
-      listed = has_got db.schema.tables n.at (table_of c tree) there;
-      named = has_name db.schema c.name n.at (table_of c tree) n.named there;
-      keeps = keeps;
-      unreferenced = unreferenced;
-      unindexed = unindexed;
-    } in
+    let there : slice_get db.schema.tables n.at ≡ Some (table_of c tree) = n.there ∙ ap Some is.0 in
+    let named = has_name db.schema c.name n.at (table_of c tree) n.named there in
+    let lone : IsLone db.schema c.name (table_of c tree) = search has_got in
     holds_map c sound (record { lone = lone; rows_are = refl }) rows

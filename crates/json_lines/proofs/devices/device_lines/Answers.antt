@@ -13,10 +13,8 @@ with-next : {X Y : Type 0} (line : X → Y) (piece : Y → List ℕ) (items : Li
     → item ≡ get_or items i item
     → flat_map piece (map line (take i items)) ++ piece (line item) ≡ flat_map piece (map line (take (i + 1) items))
 with-next line piece items i item within is =
+    let next : i + 1 ≡ suc i = search arith in
     rw (next, take-suc items i item within, map-append, flat_map-append, ← is, append-nil) refl
-  where
-    next : i + 1 ≡ suc i
-    next = search arith
 
 pub loop-device-preserved : goal.loop-device-preserved
 loop-device-preserved c =

@@ -4,9 +4,4 @@ use Rattle.json_lines.proofs.PacketTexts.{end_pieces}
 use Rattle.json_lines.proofs.packet.put_type_and_why_members.Goals as goal
 
 pub returns-clause-items : goal.returns-clause-items
-returns-clause-items c = rw (
-  c.put_string.ensures.items,
-  c.as_bytes.ensures.value,
-  c.reason_word.ensures.text,
-  c.put.ensures.items,
-) (end_pieces c.args.out.now.items (in_quotes (reason_word c.args.why)))
+returns-clause-items c = cc (end_pieces c.args.out.now.items (in_quotes (reason_word c.args.why)))

@@ -1,4 +1,4 @@
-use Rattle.std.proofs.Common.{◌≡◌, suc, List, [], ◌∷◌, length, Some, refl, ap, subst, sym, arith}
+use Rattle.std.proofs.Common.{◌≡◌, suc, List, [], ◌∷◌, length, Some, refl, ap, subst, arith}
 use Rattle.std.proofs.lemmas.List.{take_all, get_or_default}
 use Rattle.std.proofs.lemmas.Result.{on_ok_weaker}
 use Rattle.serde.specs.Event.{Log, Logs, seq_begins, seq_ends, WritesEach}
@@ -26,11 +26,8 @@ sends_array : (readings : List Reading) (old first last new : Log)
     → Logs old first (seq_begins (Some (length readings)))
     → WritesEach (λ reading. SendsValue (entry_data (entry_of reading))) readings first last → Logs last new seq_ends
     → SendsValue (array (entries_data (entries readings))) old new
-sends_array readings old first last new begun sent ended = (
-  first,
-  subst (λ n. Logs old first (seq_begins (Some n))) (sym (items_len-entries readings)) begun,
-  sends_items readings first last new sent ended,
-)
+sends_array readings old first last new begun sent ended =
+    (first, rw items_len-entries begun, sends_items readings first last new sent ended)
 
 pub loop-reading-preserved : goal.loop-reading-preserved
 loop-reading-preserved g c =
