@@ -1,7 +1,9 @@
 -- How the bytes of a sink grow.
-use Rattle.std.proofs.Common.{◌≡◌, ℕ, List, [], ◌∷◌, ◌++◌, ap, refl, sym, ◌∙◌, append-nil, append_assoc}
+use Rattle.std.proofs.lemmas.Grind.{common_steps}
+use Rattle.std.proofs.Common.{arith}
+use Rattle.std.proofs.Common.{◌≡◌, ℕ, List, [], ◌∷◌, ◌++◌, refl, sym, append-nil, append_assoc}
 use Rattle.std.specs.Prelude.{unwrap_or}
-use Rattle.std.specs.List.{concat, flat_map}
+use Rattle.std.specs.List.{concat}
 use Rattle.std.proofs.KnownBytes.{Appends-nil, Appends-trans}
 use Rattle.std.proofs.lemmas.List.Concat.{concat_is, flat_map-append}
 use Rattle.byte_io.specs.Streams.{SinkValue}
@@ -16,21 +18,13 @@ accepts-nil now = record { made = sym (append-nil now.writes); accepted = refl; 
 
 pub accepts-trans : (old mid new : SinkValue) (writes more : List Transfer) (first second : List ℕ)
     → Accepts old mid writes first → Accepts mid new more second → Accepts old new (writes ++ more) (first ++ second)
-accepts-trans old mid new writes more first second a b = record {
-  made = b.made ∙ ap (λ s. s ++ more) a.made ∙ append_assoc old.writes writes more;
-  accepted = bytes_of-append writes more ∙ ap (λ s. s ++ bytes_of more) a.accepted ∙ ap (λ s. first ++ s) b.accepted;
-  held = Appends-trans old.held mid.held new.held first second a.held b.held;
-}
+accepts-trans old mid new writes more first second a b =
+    grind (arith, common_steps, Appends-trans, append_assoc, bytes_of-append)
 
 -- all bytes that the sink accepted so far
 pub writes-bytes : (old new : SinkValue) (text : List ℕ) → WritesText old new text
     → bytes_of new.writes ≡ bytes_of old.writes ++ text
-writes-bytes old new text a =
-    ap bytes_of a.accepts.made ∙ bytes_of-append old.writes a.writes
-    ∙ ap (λ s. bytes_of old.writes ++ s) a.accepts.accepted
+writes-bytes old new text a = grind (arith, common_steps, bytes_of-append)
 
 pub concat-more : (pieces : List (List ℕ)) (bytes : List ℕ) → concat (pieces ++ bytes ∷ []) ≡ concat pieces ++ bytes
-concat-more pieces bytes =
-    concat_is (pieces ++ bytes ∷ []) ∙ flat_map-append (λ (x : List ℕ). x) pieces (bytes ∷ [])
-    ∙ ap (λ s. flat_map (λ (x : List ℕ). x) pieces ++ s) (append-nil bytes)
-    ∙ ap (λ s. s ++ bytes) (sym (concat_is pieces))
+concat-more pieces bytes = grind (arith, common_steps, append-nil, concat_is, flat_map-append)

@@ -1,4 +1,5 @@
 -- The steps of writing a text.
+use Rattle.std.proofs.lemmas.Grind.{common_steps}
 use Rattle.std.proofs.Common.{◌≡◌, ℕ, ◌-◌, ◌≤◌, List, [], ◌∷◌, ◌++◌, length, take, drop, Some, ap, sym, ◌∙◌}
 use Rattle.std.proofs.Common.{append-nil, append_assoc, arith, length-drop}
 use Rattle.std.specs.Io.KnownBytes.{Appends}
@@ -15,11 +16,7 @@ writes-nil now = record { writes = []; accepts = accepts-nil now; each = All-nil
 
 pub writes-trans : (old mid new : SinkValue) (first second : List ℕ) → WritesText old mid first
     → WritesText mid new second → WritesText old new (first ++ second)
-writes-trans old mid new first second a b = record {
-  writes = a.writes ++ b.writes;
-  accepts = accepts-trans old mid new a.writes b.writes first second a.accepts b.accepts;
-  each = All-append MovesBytes a.writes b.writes a.each b.each;
-}
+writes-trans old mid new first second a b = grind (arith, common_steps, All-append, accepts-trans)
 
 -- a text, and then a part of the next one
 pub writes_part-trans : (old mid new : SinkValue) (first front text : List ℕ) → WritesText old mid first

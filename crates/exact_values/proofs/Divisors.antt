@@ -1,6 +1,7 @@
 -- Greatest common divisors.
+use Rattle.std.proofs.lemmas.Grind.{common_steps}
 use Rattle.std.proofs.Common.{◌≡◌, ℕ, ◌+◌, ◌*◌, ◌/◌, ◌%◌, ◌<◌, ◌≤◌, refl, sym, ap, ◌∙◌, arith}
-use Rattle.std.proofs.Common.{subst, suc, zero, eqb, Bool, true, false, cond, ◌&&◌}
+use Rattle.std.proofs.Common.{subst, suc, zero}
 use Rattle.std.specs.Int.{IsGcd}
 use Prim.Native.Nat.{◌∣◌}
 use Rattle.std.proofs.lemmas.Nat.Gcd.{le_of_dvd, dvd_of_mod-eq-zero, mod-eq-zero_of_dvd, same_from_IsGcd}
@@ -23,41 +24,26 @@ IsGcd-divided a b g p h = (
       dvd_of_mul-dvd-mul_right d p (subst (λ (n : ℕ). d * g ∣ n) (sym one_g) t),
 )
 
-not_there : (a b g m : ℕ) → a % g ≡ 0 → b % g ≡ 0 → eqb (a % m) 0 && eqb (b % m) 0 ≡ false → g ≡ m → ⊥
-not_there a b g m ma mb e q =
-    let ea : a % m ≡ 0 = subst (λ (n : ℕ). a % n ≡ 0) q ma in
-    let eb : b % m ≡ 0 = subst (λ (n : ℕ). b % n ≡ 0) q mb in
-    let t : eqb (a % m) 0 && eqb (b % m) 0 ≡ true = rw (ea, eb) refl in
-    cc
-
-greatest_divisor_step : (k a b g : ℕ) → g ≤ suc k → 0 < g → IsGcd a b g
-    → (g ≤ k → 0 < g → IsGcd a b g → common_divisor_up_to k a b ≡ g) →
-    cond (eqb (a % suc k) 0 && eqb (b % suc k) 0) (suc k) (common_divisor_up_to k a b) ≡ g
-greatest_divisor_step k a b g l p h lower = by_cases (eqb (a % suc k) 0 && eqb (b % suc k) 0) refl
-  where
-    by_cases : (t : Bool) → (eqb (a % suc k) 0 && eqb (b % suc k) 0) ≡ t
-        → cond t (suc k) (common_divisor_up_to k a b) ≡ g
-    by_cases true e =
-        let both : (a % suc k ≡ 0) × (b % suc k ≡ 0) = grind (arith, nat_tests, e) in
-        let d : suc k ∣ g = h.2 (suc k) (dvd_of_mod-eq-zero (suc k) both.0) (dvd_of_mod-eq-zero (suc k) both.1) in
-        let least : suc k ≤ g = le_of_dvd p d in
-        omega arith
-    by_cases false e =
-        let other : g ≡ suc k → ⊥ = not_there a b g (suc k) (mod-eq-zero_of_dvd g h.0) (mod-eq-zero_of_dvd g h.1) e in
-        lower (omega (arith, other)) p h
-
 -- the downward search finds it
 pub greatest_divisor_is : (k a b g : ℕ) → g ≤ k → 0 < g → IsGcd a b g → common_divisor_up_to k a b ≡ g
 unfolding common_divisor_up_to
 greatest_divisor_is zero a b g l p h = absurd (omega arith)
-greatest_divisor_is (suc k) a b g l p h = greatest_divisor_step k a b g l p h (greatest_divisor_is k a b g)
+greatest_divisor_is (suc k) a b g l p h =
+    grind (
+      arith,
+      nat_tests,
+      common_steps,
+      dvd_of_mod-eq-zero,
+      le_of_dvd,
+      mod-eq-zero_of_dvd,
+      greatest_divisor_is k a b g,
+    )
 
 pub dvd_of_quotient : (b g : ℕ) → g ∣ b → b / g ∣ b
 dvd_of_quotient b g d = subst (λ (n : ℕ). b / g ∣ n) (div-mul_cancel g d) (dvd-mul_right (b / g) g)
 
 pub positive_divisor : (b g : ℕ) → 0 < b → g ∣ b → 0 < g
-positive_divisor b zero p d = absurd (omega (arith, div-mul_cancel zero d))
-positive_divisor b (suc g) p d = omega arith
+positive_divisor b g p d = grind (arith, common_steps, div-mul_cancel)
 
 -- what divides the products of two numbers with c divides that of their greatest common divisor with c, as the steps of
 -- Euclid's algorithm show

@@ -1,13 +1,14 @@
 -- Fractions in lowest terms.
-use Rattle.std.proofs.Common.{◌≡◌, ℕ, ◌+◌, ◌*◌, ◌/◌, ◌<◌, ◌≤◌, refl, sym, ap, ◌∙◌, arith, subst, suc}
+use Rattle.std.proofs.lemmas.Grind.{common_steps}
+use Rattle.std.proofs.Common.{◌≡◌, ℕ, ◌*◌, ◌/◌, ◌<◌, ◌≤◌, sym, ap, ◌∙◌, arith, subst, suc}
 use Rattle.std.specs.Prelude.{ℤ, pos, negsuc, ◌*ℤ◌, int_div, unsigned_abs}
 use Rattle.std.specs.Int.{IsGcd}
 use Prim.Native.Nat.{◌∣◌}
 use Rattle.std.proofs.lemmas.Nat.Gcd.{le_of_dvd, dvd_antisymm}
 use Rattle.std.proofs.Math.Nat.{div-mul_cancel, zero-div, add-mul, dvd-mul_left, eq_of_mul-eq-mul_right}
-use borrow.Author.Differences.{up, down, same_in, same_out, product_is, quot_is, abs_is}
+use borrow.Author.Differences.{same_in, product_is, quot_is}
 use Rattle.std.proofs.lemmas.Int.{unsigned_abs-mul}
-use Rattle.exact_values.specs.Ratio.{Ratio, IsLowest, common_divisor_up_to, lowest}
+use Rattle.exact_values.specs.Ratio.{Ratio, IsLowest, lowest}
 use Rattle.exact_values.proofs.Divisors.{dvd_of_quotient, IsGcd-divided, greatest_divisor_is, positive_divisor}
 use Rattle.exact_values.proofs.Divisors.{dvd_of_coprime}
 
@@ -15,11 +16,7 @@ use Rattle.exact_values.proofs.Divisors.{dvd_of_coprime}
 pub lowest_is : (t : ℤ) (b g : ℕ) → 0 < b → IsGcd (unsigned_abs t) b g
     → lowest t b ≡ record { num = int_div t (pos g); den = b / g }
 unfolding lowest
-lowest_is t b g p h =
-    let q : 0 < g = positive_divisor b g p h.1 in
-    let e : common_divisor_up_to b (unsigned_abs t) b ≡ g =
-    greatest_divisor_is b (unsigned_abs t) b g (le_of_dvd p h.1) q h in
-    ap (λ n. record { num = int_div t (pos n); den = b / n }) e
+lowest_is t b g p h = grind (arith, greatest_divisor_is, le_of_dvd, positive_divisor)
 
 product_divided : (b n g : ℕ) → g ∣ n → g ∣ b → b * (n / g) ≡ b / g * n
 product_divided b n g dn db =
@@ -32,25 +29,15 @@ pub value_divided : (t : ℤ) (b g : ℕ) → 0 < g → g ∣ unsigned_abs t →
     → pos b *ℤ int_div t (pos g) ≡ pos (b / g) *ℤ t
 value_divided (pos n) b g p dt db = ap pos (product_divided b n g dt db)
 value_divided (negsuc n) b g p dt db =
-    let e = product_divided b (suc n) g dt db in
-    let q = quot_is (negsuc n) g in
-    let u : up (int_div (negsuc n) (pos g)) ≡ 0 = q.0 ∙ zero-div g in
-    let d : down (int_div (negsuc n) (pos g)) ≡ suc n / g = q.1 in
-    let l = product_is (pos b) (int_div (negsuc n) (pos g)) in
-    let lu : up (pos b *ℤ int_div (negsuc n) (pos g))
-    ≡ b * up (int_div (negsuc n) (pos g)) + 0 * down (int_div (negsuc n) (pos g)) = l.0 in
-    let ld : down (pos b *ℤ int_div (negsuc n) (pos g))
-    ≡ b * down (int_div (negsuc n) (pos g)) + 0 * up (int_div (negsuc n) (pos g)) = l.1 in
-    let r = product_is (pos (b / g)) (negsuc n) in
-    let ru : up (pos (b / g) *ℤ negsuc n) ≡ b / g * 0 + 0 * suc n = r.0 in
-    let rd : down (pos (b / g) *ℤ negsuc n) ≡ b / g * suc n + 0 * 0 = r.1 in
-    let bu : b * up (int_div (negsuc n) (pos g)) ≡ b * 0 = ap (λ k. b * k) u in
-    let bd : b * down (int_div (negsuc n) (pos g)) ≡ b * (suc n / g) = ap (λ k. b * k) d in
-    same_in _ _ (omega (arith, lu, ld, ru, rd, bu, bd, e))
+    let quotient = quot_is (negsuc n) g in
+    let up_scaled = ap (λ k. b * k) (quotient.0 ∙ zero-div g) in
+    let down_scaled = ap (λ k. b * k) quotient.1 in
+    let left = product_is (pos b) (int_div (negsuc n) (pos g)) in
+    let right = product_is (pos (b / g)) (negsuc n) in
+    same_in _ _ (omega (arith, left, right, up_scaled, down_scaled, product_divided b (suc n) g dt db))
 
 abs_divided : (t : ℤ) (g : ℕ) → 0 < g → unsigned_abs (int_div t (pos g)) ≡ unsigned_abs t / g
-abs_divided (pos n) g p = refl
-abs_divided (negsuc n) g p = omega (arith, quot_is (negsuc n) g, abs_is (int_div (negsuc n) (pos g)))
+abs_divided t g p = grind (arith, common_steps)
 
 pub IsLowest_divided : (t : ℤ) (b g : ℕ) → 0 < b → IsGcd (unsigned_abs t) b g
     → IsLowest (record { num = int_div t (pos g); den = b / g })
@@ -72,11 +59,7 @@ dvd-den a b h e =
 
 -- a factor above 0 can be cancelled on both sides
 *ℤ-cancel : (x y : ℤ) (d : ℕ) → 0 < d → x *ℤ pos d ≡ y *ℤ pos d → x ≡ y
-*ℤ-cancel x y d p e =
-    let l = product_is x (pos d) in
-    let r = product_is y (pos d) in
-    let sums : up x * d + down y * d ≡ up y * d + down x * d = omega (arith, l, r, same_out _ _ e) in
-    same_in x y (eq_of_mul-eq-mul_right d p _ _ (add-mul (up x) (down y) d ∙ (sums ∙ sym (add-mul (up y) (down x) d))))
+*ℤ-cancel x y d p e = grind (arith, add-mul, eq_of_mul-eq-mul_right)
 
 -- a value has one fraction in lowest terms
 pub same_from_value : (a b : Ratio) → IsLowest a → IsLowest b → a.num *ℤ pos b.den ≡ b.num *ℤ pos a.den → a ≡ b

@@ -53,12 +53,10 @@ Hears mode (Ute query) = LearnsByTeachIn mode
 Hears mode kind = IsOpen mode
 
 pub hears-open : (mode : Mode) (kind : Teach) → Hears mode kind → IsOpen mode
-hears-open Learn kind hears = tt
-hears-open LearnAnswer kind hears = tt
-hears-open (LearnAs eep) kind hears = tt
 hears-open Closed (Ute query) (inl is) = absurd cc
 hears-open Closed (Ute query) (inr is) = absurd cc
 hears-open Closed kind hears = absurd hears
+hears-open mode kind hears = tt
 
 -- it is a query to forget its sender
 abbrev pub AsksDeletion : Teach → Type 0
@@ -100,17 +98,12 @@ module _ (P : Plan → Type 0) (t : Telegram) where
       either P (supported query.eep) _ _ (each.adds tt _ _) (each.refuses tt Unsupported tt)
   of-row known (FourByte query) (LearnAs eep) each =
       either P (eep.rorg == 0xA5) _ _ (each.adds tt _ _) each.silent
-  of-row known Plain Learn each = each.silent
-  of-row known Plain LearnAnswer each = each.silent
   of-row known Plain (LearnAs eep) each =
       either P (not known && can_be_learned_by t) _ _ (either P (eep.rorg == t.rorg) _ _ (each.adds tt _ _) each.silent)
       each.silent
   of-row known (Ute query) Learn each = of-asked query Learn (inl refl) each
   of-row known (Ute query) LearnAnswer each = of-asked query LearnAnswer (inr refl) each
-  of-row known (Ute query) (LearnAs eep) each = each.silent
-  of-row known Answer Learn each = each.silent
-  of-row known Answer LearnAnswer each = each.silent
-  of-row known Answer (LearnAs eep) each = each.silent
+  of-row known kind mode each = each.silent
 
   -- so it holds for this one
   pub of_plan : (mode : Mode) (known : Bool) → OfPlans P t (teach_in_of t) mode → P (plan_of t mode known)
@@ -126,11 +119,7 @@ plan-unasked t mode known kind is teaches =
     same : (kind : Teach) → kind ≢ Plain
         → plan_in_mode (plan_row_of t known kind) mode ≡ plan_in_mode (plan_row_of t false kind) mode
     same Plain teaches = absurd (teaches refl)
-    same Contact teaches = refl
-    same Bare teaches = refl
-    same (FourByte query) teaches = refl
-    same (Ute query) teaches = refl
-    same Answer teaches = refl
+    same kind teaches = refl
 
 -- ---- a query
 

@@ -1,4 +1,4 @@
-use Rattle.std.proofs.Common.{rules, ◌-◌, length, drop, length-drop, arith}
+use Rattle.std.proofs.Common.{◌-◌, length, drop, length-drop, arith}
 use Rattle.std.proofs.lemmas.List.{take_all}
 use Rattle.esp3_frames.specs.Outcome.{packet_of}
 use Rattle.erp1_telegrams.proofs.TelegramLemmas.{Taken, taken_is}
@@ -19,6 +19,3 @@ returns c =
     } in
     taken_is (packet_of c.args.p.now) _ _ _ _ c.new.result taken c.new.ensures.ok c.new.ensures.other_kind
     c.new.ensures.bad_length c.new.ensures.no_other
-
-pub returns-in_default-rest : goal.returns-in_default-rest
-returns-in_default-rest c = search rules

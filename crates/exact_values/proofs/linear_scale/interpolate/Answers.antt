@@ -1,9 +1,8 @@
-use Rattle.std.proofs.Common.{◌≡◌, ◌*◌, arith, w64, ap, ◌∙◌, sym}
+use Rattle.std.proofs.lemmas.Grind.{common_steps}
+use Rattle.std.proofs.Common.{◌≡◌, arith, w64, ap, ◌∙◌}
 use Rattle.std.specs.Prelude.{pos, ◌+ℤ◌, ◌-ℤ◌, ◌*ℤ◌}
 use Rattle.std.proofs.lemmas.Int.{ints}
 use mir.Val.{to_z, of_z}
-use Rattle.exact_values.specs.Ratio.{lowest}
-use Rattle.exact_values.specs.Fraction.{ratio}
 use Rattle.exact_values.specs.Scale.{interpolated, distance}
 use Rattle.exact_values.proofs.Line.{StandsFor-distances}
 use Rattle.exact_values.proofs.linear_scale.interpolate.Goals as goal
@@ -58,19 +57,7 @@ top c =
 
 pub returns-clause-exact : goal.returns-clause-exact
 unfolding interpolated
-returns-clause-exact c =
-    c.reduced.ensures.exact
-    ∙ (ap (λ z. lowest z (10 * c.abs_diff-width.result)) (top c)
-    ∙ ap (λ n. lowest (c.args.tenths_lo *ℤ pos (distance c.args.raw_lo c.args.raw_hi) +ℤ
-    (c.args.tenths_hi -ℤ c.args.tenths_lo) *ℤ pos (distance c.args.raw c.args.raw_lo)) (10 * n)) (width c))
+returns-clause-exact c = grind (arith, common_steps, top, width)
 
 pub returns-clause-value : goal.returns-clause-value
-returns-clause-value c =
-    let e : pos (10 * distance c.args.raw_lo c.args.raw_hi) *ℤ c.reduced.result.num
-    ≡ pos c.reduced.result.den *ℤ
-    (c.args.tenths_lo *ℤ pos (distance c.args.raw_lo c.args.raw_hi) +ℤ (c.args.tenths_hi -ℤ c.args.tenths_lo) *ℤ pos
-    (distance c.args.raw c.args.raw_lo))
-    = ap (λ n. pos (10 * n) *ℤ c.reduced.result.num) (sym (width c))
-    ∙ (c.reduced.ensures.value ∙ ap (λ z. pos c.reduced.result.den *ℤ z) (top c)) in
-    StandsFor-distances c.args.raw c.args.raw_lo c.args.raw_hi c.args.tenths_lo c.args.tenths_hi
-    (ratio c.reduced.result) c.requires.between.0 c.requires.between.1 e
+returns-clause-value c = grind (arith, common_steps, StandsFor-distances, top, width)

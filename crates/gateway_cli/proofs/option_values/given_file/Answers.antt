@@ -1,19 +1,10 @@
-use Rattle.std.proofs.Common.{ap, is_some, refl, sym, ◌∙◌}
-use Rattle.std.specs.Prelude.{option_map}
-use Rattle.clap.specs.Words.{found_of}
+use Rattle.std.proofs.lemmas.Grind.{common_steps}
+use Rattle.std.proofs.Common.{arith}
 use Rattle.clap.proofs.WalkLemmas.{first_value-rows}
 use Rattle.gateway_cli.proofs.option_values.given_file.Goals as goal
 
 pub unreachable-requires : goal.unreachable-requires
-unreachable-requires c =
-    let is = sym (first_value-rows (found_of c.args.given.now) c.args.name.now) ∙ sym c.get_str.ensures
-    ∙ ap (option_map (λ text. text.now)) c.in-None.is in
-    let none = sym (ap is_some is) ∙ c.requires in
-    cc
+unreachable-requires c = grind (arith, common_steps, first_value-rows)
 
 pub returns : goal.returns
-returns c = (
-  sym (first_value-rows (found_of c.args.given.now) c.args.name.now) ∙ sym c.get_str.ensures
-      ∙ ap (option_map (λ text. text.now)) c.in-Some.is,
-  refl,
-)
+returns c = grind (arith, common_steps, first_value-rows)

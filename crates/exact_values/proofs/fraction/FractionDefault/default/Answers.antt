@@ -1,5 +1,0 @@
-use Rattle.std.proofs.Common.{rules}
-use Rattle.exact_values.proofs.fraction.FractionDefault.default.Goals as goal
-
-pub returns : goal.returns
-returns c = search rules

@@ -1,5 +1,0 @@
-use Rattle.std.proofs.Common.{rules}
-use Rattle.teach_in.proofs.ute.UteQuery.request.Goals as goal
-
-pub returns : goal.returns
-returns c = search rules
