@@ -1,15 +1,12 @@
 pub mod Common
 pub mod CacheAgreement
 pub mod DeviceRows
-pub mod DeviceMeaning
 pub mod DevicesHeld
-pub mod FilesFound
 pub mod ForCallers
-pub mod MigrationMeaning
 pub mod OpenCalls
 pub mod RegistryCalls
 pub mod RegistryMade
+pub mod StatementMeanings
 pub mod StatementTexts
-pub mod TableTexts
 pub mod TablesRecognized
 pub mod VersionRow

@@ -1,14 +1,15 @@
 -- The tables of a registry in a schema and in its list of objects, and what the tests for them imply.
+use Rattle.std.proofs.lemmas.Grind.{common_steps}
 use Rattle.keyed_table.proofs.Common.{inl, inr, ◌≡◌, ◌≢◌, ℕ, ◌==◌, List, [], ◌∷◌, true, false, length, filter, Some}
 use Rattle.keyed_table.proofs.Common.{rules, None, Option, refl, sym, ap, ◌∙◌, arith, not, codes, subst, IsTrue, Ok}
-use Rattle.keyed_table.proofs.Common.{both_ways, cond_both, eqb-false, ne_eqb, not-true, or_from, AllByRecursion}
-use Rattle.keyed_table.proofs.Common.{table_defined_by, lacks_sequence, Database, IsDatabase, Row, Schema, State}
-use Rattle.keyed_table.proofs.Common.{Shown, HasCleanDisk, Survives, Table, table_named, any_from_none, none_from_any}
-use Rattle.keyed_table.proofs.Common.{is_used, same_itself, Has, all_has, all_from, has_got, has_kept, has_filtered}
-use Rattle.keyed_table.proofs.Common.{all_weaker, all_both, Trees, IsLone}
-use Rattle.device_registry.proofs.Common.{TablesStatus, Absent, Present, Unusable, Version, First, Second}
-use Rattle.device_registry.proofs.Common.{IsRegistryIn, IsSettledOpen, list_objects_sql, device_table_name, meta_table}
-use Rattle.device_registry.proofs.Common.{device_table, NoneRefersToOurs, HasNoReferenceToOurs, HasTables, IsRegistry}
+use Rattle.keyed_table.proofs.Common.{both_ways, eqb-false, ne_eqb, not-true, or_from, AllByRecursion, table_defined_by}
+use Rattle.keyed_table.proofs.Common.{lacks_sequence, Database, IsDatabase, Row, Schema, State, Shown, HasCleanDisk}
+use Rattle.keyed_table.proofs.Common.{Survives, Table, table_named, any_from_none, none_from_any, is_used, same_itself}
+use Rattle.keyed_table.proofs.Common.{Has, all_has, all_from, has_got, has_kept, has_filtered, all_weaker, all_both}
+use Rattle.keyed_table.proofs.Common.{Trees, IsLone}
+use Rattle.device_registry.proofs.Common.{TablesStatus, Absent, Present, Unusable, Version, First, Second, IsRegistryIn}
+use Rattle.device_registry.proofs.Common.{IsSettledOpen, list_objects_sql, device_table_name, meta_table, device_table}
+use Rattle.device_registry.proofs.Common.{NoneRefersToOurs, HasNoReferenceToOurs, HasTables, IsRegistry}
 use Rattle.device_registry.proofs.Common.{AreTablesListed, HasCatalogText, admits_tables, tables_status}
 use Rattle.std.proofs.Common.{◌↔◌, Decides}
 use Rattle.std.proofs.lemmas.Bool.Decides.{Decides-and, Decides-eqb}
@@ -20,18 +21,17 @@ use Rattle.sqlite_trees.specs.Tree.{IsAscending}
 use Rattle.keyed_table.proofs.TablesKept.{unused, lone_stands}
 use Rattle.keyed_table.proofs.ListedTables.{IsNamed, defined, found_at, has_name, one_database, one_table, reported}
 use Rattle.keyed_table.proofs.ListedTables.{none_or_some, shows_line}
-use Rattle.keyed_table.proofs.KeyedMap.{StandsAlone, lone_alone}
-use Rattle.device_registry.proofs.TableTexts.{device_is, meta_text}
+use Rattle.device_registry.proofs.StatementMeanings.{device_is, meta_text}
 use Rattle.device_registry.specs.Table.{meta_name}
 use Rattle.device_registry.specs.Stored.{HasNoReferenceTo, TreeHasName, MigrationAddsNoSequence, AdmitsTables, other}
 use Rattle.device_registry.specs.SchemaChecks.{is_referenced, has_foreign_key_to_ours, is_indexed, has_one_table}
 use Rattle.device_registry.specs.SchemaChecks.{lacks_needed_sequence_table, migration_adds_no_sequence, tree_of_table}
 use Rattle.device_registry.specs.private.CatalogRows.{list_our_tables}
-use Rattle.device_registry.specs.private.TablesStatus.{are_creatable, are_unaffected, tables_in_trees}
+use Rattle.device_registry.specs.private.TablesStatus.{are_unaffected, tables_in_trees}
 
 -- the disk was clean before
-pub before : {old new : State} {P : Trees → Type 0} → Survives old new P → HasCleanDisk new → HasCleanDisk old
-before survives clean = omega (arith, clean, survives.clean)
+pub clean_before : {old new : State} {P : Trees → Type 0} → Survives old new P → HasCleanDisk new → HasCleanDisk old
+clean_before survives clean = omega (arith, clean, survives.clean)
 
 -- ---- the tables are independent of the other objects
 
@@ -63,22 +63,21 @@ module _ (schema : Schema) where
     unindexed = all_weaker _ _ (λ index both. both.1) schema.indexes t.unindexed;
   }
 
-  pub meta_alone : {version : Version} (t : HasTables version schema) → StandsAlone schema t.meta
-  meta_alone t = lone_alone (meta_lone t)
+both_versions : (P : Version → Type 0) → P First → P Second → (version : Version) → P version
+both_versions P first second version = grind (arith, common_steps)
 
 -- the two tables have different names
 pub other_name : (version : Version) → same_name meta_name (device_table_name version) ≡ false
 unfolding same_name
-other_name First = refl
-other_name Second = refl
+other_name = both_versions _ refl refl
 
 -- a version table and a device table that no other object affects are the tables of a registry
-abbrev pub stand_in : (version : Version) (db : Database) → IsDatabase db → {meta devices : ℕ}
+abbrev pub tables-from_lone : (version : Version) (db : Database) → IsDatabase db → {meta devices : ℕ}
     → IsLone db.schema meta_name (meta_table meta)
     → IsLone db.schema (device_table_name version) (device_table version devices)
     → NoneRefersToOurs db.schema → is_used db.schema (device_table_name (other version)) ≡ false
     → MigrationAddsNoSequence version db.schema → HasTables version db.schema
-stand_in version db sound {meta} {devices} one two spared free counted =
+tables-from_lone version db sound {meta} {devices} one two spared free counted =
     let at = lone_stands db sound one in
     let to = lone_stands db sound two in
     record {
@@ -103,9 +102,8 @@ unreferenced schema = (
   λ none.
       all_from HasNoReferenceToOurs schema.tables (λ t has. record {
         meta = all_has _ schema.tables t ((spares meta_name).0 (search (rules, none))) has;
-        devices = λ version. all_has _ schema.tables t ((spares (device_table_name version)).0 (elim version
-            as (λ v. is_referenced schema (device_table_name v) ≡ false)
-            [ First ↦ search (rules, none) | Second ↦ search (rules, none) ])) has;
+        devices = both_versions _ (all_has _ schema.tables t ((spares _).0 (search (rules, none))) has)
+            (all_has _ schema.tables t ((spares _).0 (search (rules, none))) has);
       }),
   λ all.
       or_from _ _ (or_from _ _ ((spares _).1 (spares_meta schema all)) ((spares _).1 (spares_devices schema First all)))
@@ -135,36 +133,29 @@ module _ (schema : Schema) (name : List ℕ) where
   IsTreeOf (Some tree) = IsNamed schema name tree
 
   is_tree : IsTreeOf (tree_of_table schema name)
-  is_tree = elim (none_or_some (table_named schema name)) [
-    | inl none ↦ rw none none
-    | inr found ↦
-        let it = found_at (λ t. same_name t.name name) found.0 schema.tables found.1 in
-        rw (found.1, it.1) (record { at = found.0; table = it.0; named = found.1; there = it.1; is = refl })
-  ]
+  is_tree = grind (arith, common_steps, found_at, none_or_some)
 
 -- ---- `sqlite_sequence`
 
 -- the definition of `sqlite` is the same as ours
-counted : (schema : Schema) → lacks_sequence schema ≡ lacks_needed_sequence_table schema
-counted schema =
+lacks_sequence-same : (schema : Schema) → lacks_sequence schema ≡ lacks_needed_sequence_table schema
+lacks_sequence-same schema =
     elim (tree_of_table schema (codes "sqlite_sequence")) as (λ o. IsTreeOf schema (codes "sqlite_sequence") o
     → lacks_sequence schema ≡ lacks_needed_sequence_table schema) [
       | None ↦ λ none. rw none refl
-      | Some tree ↦ λ it. rw (it.named, it.there) refl
+      | Some tree ↦ λ named. rw (named.named, named.there) refl
     ] (is_tree schema (codes "sqlite_sequence"))
 
 sequence_allowed : (version : Version) (schema : Schema)
     → Decides (migration_adds_no_sequence version schema) (MigrationAddsNoSequence version schema)
-sequence_allowed First schema = rw (counted schema) (not-true _, not_from_false _)
-sequence_allowed Second schema = ((λ e. tt), (λ e. refl))
+sequence_allowed version schema = grind (arith, common_steps, lacks_sequence-same, not_from_false)
 
 -- ---- one table in a tree
 
 -- all elements of a list of length 1 are equal
-one_element : {X : Type 0} (xs : List X) (a b : X) → length xs ≡ 1 → Has xs a → Has xs b → a ≡ b
-one_element [] a b one has too = absurd has
-one_element (x ∷ []) a b one has too = grind (arith, has, too)
-one_element (x ∷ y ∷ xs) a b one has too = absurd (omega arith)
+sole_elements-equal : {X : Type 0} (xs : List X) (a b : X) → length xs ≡ 1 → Has xs a → Has xs b → a ≡ b
+sole_elements-equal (x ∷ []) a b one has too = grind (arith, has, too)
+sole_elements-equal _ a b one has too = absurd (omega arith)
 
 -- a list of tables with different names, each of which is this table, has length 1
 alone : (tables : List Table) → IsAscending (λ a b. same_name a.name b.name ≡ false) tables → (t : Table)
@@ -179,24 +170,24 @@ lone : {schema : Schema} {name : List ℕ} {tree : ℕ} → IsNamed schema name 
     → AllByRecursion (TreeHasName name tree) schema.tables
 lone {schema} {name} {tree} n one = all_from (TreeHasName name tree) schema.tables (λ t has is.
     let in_tree = λ (u : Table). u.tree == tree in
-    let same = one_element (filter in_tree schema.tables) n.table t
+    let same = sole_elements-equal (filter in_tree schema.tables) n.table t
     (length-filter in_tree schema.tables ∙ (Decides-eqb _ 1).0 one)
     (has_kept in_tree _ n.table (has_got schema.tables n.at n.table n.there) ((Decides-eqb _ tree).1 n.is))
     (has_kept in_tree _ t has ((Decides-eqb _ tree).1 is)) in
     subst (λ u. same_name u.name name ≡ true) same (has_name schema name n.at n.table n.named n.there))
 
 -- in a sound database, the tree of a table that no other object affects has one table
-has_one : (db : Database) → IsDatabase db → {name : List ℕ} {table : Table} → IsLone db.schema name table
+lone-has_one_table : (db : Database) → IsDatabase db → {name : List ℕ} {table : Table} → IsLone db.schema name table
     → has_one_table db.schema table.tree ≡ true
-has_one db sound {name} {table} it =
+lone-has_one_table db sound {name} {table} lone =
     let tables = db.schema.tables in
     let in_tree = λ (t : Table). t.tree == table.tree in
-    let kept = has_kept in_tree tables table it.listed ((Decides-eqb table.tree _).1 refl) in
+    let kept = has_kept in_tree tables table lone.listed ((Decides-eqb table.tree _).1 refl) in
     (Decides-eqb _ 1).1 (sym (length-filter in_tree tables) ∙ alone (filter in_tree tables)
     (ascending-filter _ in_tree tables sound.lists.listed.named) table kept (λ t has.
     let was = has_filtered in_tree tables t has in
-    one_table db sound table it.listed name it.named t was.0
-    (all_has _ tables t it.keeps was.0 ((Decides-eqb t.tree _).0 was.1))))
+    one_table db sound table lone.listed name lone.named t was.0
+    (all_has _ tables t lone.keeps was.0 ((Decides-eqb t.tree _).0 was.1))))
 
 -- ---- the conditions for the creation of the tables
 
@@ -205,29 +196,28 @@ admits schema = (
   λ ok.
       record {
         meta_name_unused = search (rules, ok);
-        device_names_unused = λ version. elim version as (λ v. is_used schema (device_table_name v) ≡ false)
-            [ First ↦ search (rules, ok) | Second ↦ search (rules, ok) ];
+        device_names_unused = both_versions _ (search (rules, ok)) (search (rules, ok));
         unreferenced = (unreferenced schema).0 (search (rules, ok));
-        sequence_allowed = counted schema ∙ search (rules, ok);
+        sequence_allowed = lacks_sequence-same schema ∙ search (rules, ok);
       },
-  λ it. rw (
-    it.meta_name_unused,
-    it.device_names_unused First,
-    it.device_names_unused Second,
-    (unreferenced schema).1 it.unreferenced,
-    ← counted schema,
-    it.sequence_allowed,
+  λ free. rw (
+    free.meta_name_unused,
+    free.device_names_unused First,
+    free.device_names_unused Second,
+    (unreferenced schema).1 free.unreferenced,
+    ← lacks_sequence-same schema,
+    free.sequence_allowed,
   ) refl,
 )
 
 -- ---- the status of the tables, from the trees of the three names
 
-in_trees : (version : Version) (schema : Schema) (meta devices : ℕ) → tree_of_table schema meta_name ≡ Some meta
+status-from_trees : (version : Version) (schema : Schema) (meta devices : ℕ)
+    → tree_of_table schema meta_name ≡ Some meta
     → tree_of_table schema (device_table_name version) ≡ Some devices
     → tree_of_table schema (device_table_name (other version)) ≡ None
     → are_unaffected version schema meta devices ≡ true → tables_status schema ≡ Present version
-in_trees First schema m d meta devices none all = rw (meta, devices, none, all) refl
-in_trees Second schema m d meta devices none all = rw (meta, none, devices, all) refl
+status-from_trees version schema m d meta devices none all = grind (arith, common_steps)
 
 module _ (schema : Schema) where
   -- what a status implies
@@ -243,30 +233,25 @@ module _ (schema : Schema) where
   implies : (meta first second : Option ℕ) → IsTreeOf schema meta_name meta
       → IsTreeOf schema (device_table_name First) first → IsTreeOf schema (device_table_name Second) second
       → Implies (tables_in_trees schema meta first second)
-  implies None None None m f s = cond_both (are_creatable schema) Absent Unusable Implies
-      (λ ok. rw (m, f, s) ok) (λ no. tt)
-  implies (Some meta) (Some devices) None m f s =
-      cond_both (are_unaffected First schema meta devices) (Present First) Unusable Implies
-      (λ ok. (meta, devices, m, f, s, ok)) (λ no. tt)
-  implies (Some meta) None (Some devices) m f s =
-      cond_both (are_unaffected Second schema meta devices) (Present Second) Unusable Implies
-      (λ ok. (meta, devices, m, s, f, ok)) (λ no. tt)
+  implies None None None m f s = grind (arith, common_steps)
+  implies (Some meta) (Some devices) None m f s = grind (arith, common_steps)
+  implies (Some meta) None (Some devices) m f s = grind (arith, common_steps)
   implies meta first second m f s = tt
 
   pub status_implies : {status : TablesStatus} → tables_status schema ≡ status → Implies status
   status_implies is = subst Implies is (implies _ _ _ (is_tree schema _) (is_tree schema _) (is_tree schema _))
 
   pub is_absent : AdmitsTables schema → tables_status schema ≡ Absent
-  is_absent it =
-      let meta = (unused schema meta_name it.meta_name_unused).0 in
-      let devices = λ (version : Version). (unused schema _ (it.device_names_unused version)).0 in
-      let free = (admits schema).1 it in
-      rw (meta, devices First, devices Second, rw (meta, devices First, devices Second) at free) refl
+  is_absent free =
+      let meta = (unused schema meta_name free.meta_name_unused).0 in
+      let devices = λ (version : Version). (unused schema _ (free.device_names_unused version)).0 in
+      let admitted = (admits schema).1 free in
+      rw (meta, devices First, devices Second, rw (meta, devices First, devices Second) at admitted) refl
 
 module _ (db : Database) (sound : IsDatabase db) where
   -- the status of the tables of a registry is `Present`
   pub is_present : {version : Version} → HasTables version db.schema → tables_status db.schema ≡ Present version
-  is_present {version} t = in_trees version db.schema t.meta t.devices
+  is_present {version} t = status-from_trees version db.schema t.meta t.devices
       (rw (t.meta_is_table.named, t.meta_is_table.there) refl)
       (rw (t.devices_are_table.named, t.devices_are_table.there) refl)
       (rw (unused db.schema _ t.other_version_unused).0 refl)
@@ -274,8 +259,8 @@ module _ (db : Database) (sound : IsDatabase db) where
         (unreferenced db.schema).1 t.unreferenced,
         (unindexed db.schema t.meta).1 (meta_lone db.schema t).unindexed,
         (unindexed db.schema t.devices).1 (devices_lone db.schema t).unindexed,
-        has_one db sound (meta_lone db.schema t),
-        has_one db sound (devices_lone db.schema t),
+        lone-has_one_table db sound (meta_lone db.schema t),
+        lone-has_one_table db sound (devices_lone db.schema t),
         rw (unused db.schema _ t.other_version_unused).0 at t.other_version_unused,
         (sequence_allowed version db.schema).1 t.sequence_allowed,
       ) refl)
@@ -307,17 +292,15 @@ module _ (db : Database) (sound : IsDatabase db) where
       (spares_meta db.schema spared) in
       let two = listed_lone devices listed.1 (device_is version) (grind (arith, unaffected))
       (grind (arith, unaffected)) (spares_devices db.schema version spared) in
-      stand_in version db sound one two spared (rw none (grind (arith, unaffected)))
+      tables-from_lone version db sound one two spared (rw none (grind (arith, unaffected)))
       ((sequence_allowed version db.schema).0 (grind (arith, unaffected)))
 
 module _ (version : Version) (s : State) where
   -- a sound database that has the trees of a registry is a registry
-  pub own_found : IsSettledOpen s → IsRegistryIn version s.now.trees → IsRegistry version s.now
-  own_found rest own = subst (IsRegistry version) (one_database own.same own.sound rest.sound) own.registry
+  pub IsRegistry-from_trees : IsSettledOpen s → IsRegistryIn version s.now.trees → IsRegistry version s.now
+  IsRegistry-from_trees rest own = subst (IsRegistry version) (one_database own.same own.sound rest.sound) own.registry
 
   -- the test of the listed rows decides whether the tables are listed
-  pub ours : (new : State) (rows : List Row) → IsDatabase s.now → Shown list_objects_sql [] s new rows
+  pub listed_rows-decide : (new : State) (rows : List Row) → IsDatabase s.now → Shown list_objects_sql [] s new rows
       → Decides (list_our_tables version rows) (AreTablesListed version s.now.trees)
-  ours new rows sound shows =
-      Decides-and _ _ (reported s new rows sound shows _ _, shows_line s new rows sound shows _ _)
-      (reported s new rows sound shows _ _, shows_line s new rows sound shows _ _)
+  listed_rows-decide new rows sound shows = grind (arith, Decides-and, reported, shows_line)

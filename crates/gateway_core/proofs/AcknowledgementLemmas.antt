@@ -27,9 +27,9 @@ state_before session line answered =
     state_after_run (initial_state session.base session.found) answered.earlier_inputs answered.earlier_results
 
 -- it is in range, and the input is of bytes
-in-range-before : (session : Session) (line : TeachLine) (answered : AnswersWithTeachLine session line)
+state_before-in_range : (session : Session) (line : TeachLine) (answered : AnswersWithTeachLine session line)
     → BeginsInRange session → IsStateInRange (state_before session line answered) × PacketBodyIsBytes answered.input
-in-range-before session line answered (found, bytes) =
+state_before-in_range session line answered (found, bytes) =
     let parts = bytes-append answered.earlier_inputs (answered.input ∷ answered.later_inputs)
     (rw answered.inputs_are at bytes) in (
       state_after_run-in_range (initial_state session.base session.found) answered.earlier_inputs
@@ -38,7 +38,8 @@ in-range-before session line answered (found, bytes) =
       parts.1.0,
     )
 
-durable : (session : Session) (line : TeachLine) → IsSession session → (answered : AnswersWithTeachLine session line)
+answered_update-is_durable : (session : Session) (line : TeachLine) → IsSession session
+    → (answered : AnswersWithTeachLine session line)
     → let before = state_before session line answered in
     Run (initial_state session.base session.found) answered.earlier_inputs answered.earlier_results
     answered.earlier_answers before
@@ -46,7 +47,7 @@ durable : (session : Session) (line : TeachLine) → IsSession session → (answ
     → (known : Device) → text (Teach line) ≡ text (Teach (device_teach_line known line.outcome))
     → update_of before answered.input ≡ Some (accepted_or_deleted_update line.outcome known)
     → (BeginsInRange session → HasDeviceNumbersInRange known) → IsDurable session line answered
-durable session line is answered run applied known same_text asks in_range = record {
+answered_update-is_durable session line is answered run applied known same_text asks in_range = record {
   state_before = state_before session line answered;
   device = known;
   run = run;
@@ -85,5 +86,5 @@ accepted_or_deleted_is_durable session line is answered acknowledged =
     let reports = teach_lines_are_true before answered.input answered.applied_or_failed line
     (rw answer_is at answered.reported) in
     let (known, same_text, asks, in_range) = reported-device before answered.input line acknowledged reports.1 in
-    durable session line is answered run reports.0 known same_text asks
-    (λ begins. let (state_in, bytes) = in-range-before session line answered begins in in_range state_in bytes)
+    answered_update-is_durable session line is answered run reports.0 known same_text asks
+    (λ begins. let (state_in, bytes) = state_before-in_range session line answered begins in in_range state_in bytes)

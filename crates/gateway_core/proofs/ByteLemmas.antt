@@ -24,20 +24,20 @@ abbrev AreBits : List ℕ → Type 0
 AreBits [] = Unit {0}
 AreBits (x ∷ xs) = (x < 2) × AreBits xs
 
-bits-are : (bytes : List ℕ) → AreBits (bits bytes)
+AreBits-bits : (bytes : List ℕ) → AreBits (bits bytes)
 unfolding bits byte_bits
-bits-are [] = tt
-bits-are (b ∷ bytes) = search (rules, bits-are bytes) parts 10
+AreBits-bits [] = tt
+AreBits-bits (b ∷ bytes) = search (rules, AreBits-bits bytes) parts 10
 
-drop-bits : (k : ℕ) (xs : List ℕ) → AreBits xs → AreBits (drop k xs)
-drop-bits zero xs are = are
-drop-bits (suc k) [] are = tt
-drop-bits (suc k) (x ∷ xs) are = drop-bits k xs are.1
+AreBits-drop : (k : ℕ) (xs : List ℕ) → AreBits xs → AreBits (drop k xs)
+AreBits-drop zero xs are = are
+AreBits-drop (suc k) [] are = tt
+AreBits-drop (suc k) (x ∷ xs) are = AreBits-drop k xs are.1
 
-take-bits : (k : ℕ) (xs : List ℕ) → AreBits xs → AreBits (take k xs)
-take-bits zero xs are = tt
-take-bits (suc k) [] are = tt
-take-bits (suc k) (x ∷ xs) are = (are.0, take-bits k xs are.1)
+AreBits-take : (k : ℕ) (xs : List ℕ) → AreBits xs → AreBits (take k xs)
+AreBits-take zero xs are = tt
+AreBits-take (suc k) [] are = tt
+AreBits-take (suc k) (x ∷ xs) are = (are.0, AreBits-take k xs are.1)
 
 number-below : (xs : List ℕ) → AreBits xs → number xs < 2 ^ length xs
 unfolding number
@@ -54,7 +54,8 @@ unfolding field
 field-below bytes offset len =
     let part = take len (drop offset (bits bytes)) in
     let below : number part < 2 ^ length part =
-    number-below part (take-bits len (drop offset (bits bytes)) (drop-bits offset (bits bytes) (bits-are bytes))) in
+    number-below part (AreBits-take len (drop offset (bits bytes))
+    (AreBits-drop offset (bits bytes) (AreBits-bits bytes))) in
     let few : length part ≤ len = omega (arith, length-take {A = ℕ}) in
     let up : 2 ^ length part ≤ 2 ^ len = pow-le-pow_right {n = 2} (omega arith) (omega arith) in
     omega (arith, below, up)
@@ -68,61 +69,62 @@ four-below id a b c d = omega (arith, a, b, c, d)
 abbrev pub AreBytes : List ℕ → Type 0
 AreBytes = All (λ byte. byte < 256)
 
-pub front-bytes : (front behind : List ℕ) → AreBytes (front ++ behind) → AreBytes front
-front-bytes [] behind all k d inside = absurd (omega (arith, inside))
-front-bytes (x ∷ front) behind all zero d inside = all 0 d (omega arith)
-front-bytes (x ∷ front) behind all (suc k) d inside =
-    front-bytes front behind (λ i e h. all (suc i) e (omega (arith, h))) k d (omega (arith, inside))
+pub AreBytes-front : (front behind : List ℕ) → AreBytes (front ++ behind) → AreBytes front
+AreBytes-front [] behind all k d inside = absurd (omega (arith, inside))
+AreBytes-front (x ∷ front) behind all zero d inside = all 0 d (omega arith)
+AreBytes-front (x ∷ front) behind all (suc k) d inside =
+    AreBytes-front front behind (λ i e h. all (suc i) e (omega (arith, h))) k d (omega (arith, inside))
 
-pub back-bytes : (front behind : List ℕ) → AreBytes (front ++ behind) → AreBytes behind
-back-bytes [] behind all = all
-back-bytes (x ∷ front) behind all = back-bytes front behind (λ k d h. all (suc k) d (omega (arith, h)))
+pub AreBytes-back : (front behind : List ℕ) → AreBytes (front ++ behind) → AreBytes behind
+AreBytes-back [] behind all = all
+AreBytes-back (x ∷ front) behind all = AreBytes-back front behind (λ k d h. all (suc k) d (omega (arith, h)))
 
 -- ---- a stream of bytes
 
 abbrev HasByteData : Packet → Type 0
 HasByteData packet = AreBytes packet.body
 
-found-bytes : (stream front behind : List ℕ) (packet : Packet) → IsPacket packet front → stream ≡ front ++ behind
+AreBytes-packet : (stream front behind : List ℕ) (packet : Packet) → IsPacket packet front → stream ≡ front ++ behind
     → AreBytes stream
     → HasByteData packet × AreBytes behind
-found-bytes stream front behind packet whole is all =
+AreBytes-packet stream front behind packet whole is all =
     let parts : AreBytes (front ++ behind) = subst AreBytes is all in
-    let bytes = subst AreBytes whole.bytes (front-bytes front behind parts) in
-    let body = back-bytes (0x55 ∷ header packet ++ check (header packet) ∷ []) (packet.body ++ packet.opt ++ check
+    let bytes = subst AreBytes whole.bytes (AreBytes-front front behind parts) in
+    let body = AreBytes-back (0x55 ∷ header packet ++ check (header packet) ∷ []) (packet.body ++ packet.opt ++ check
     (packet.body ++ packet.opt) ∷ [])
     bytes in (
-      front-bytes packet.body packet.opt (front-bytes (packet.body ++ packet.opt) (check
+      AreBytes-front packet.body packet.opt (AreBytes-front (packet.body ++ packet.opt) (check
           (packet.body ++ packet.opt) ∷ []) body),
-      back-bytes front behind parts,
+      AreBytes-back front behind parts,
     )
 
-framed-bytes : {stream : List ℕ} {packets : List Packet} {rest : List ℕ} → Framing stream packets rest
+AreBytes-framed : {stream : List ℕ} {packets : List Packet} {rest : List ℕ} → Framing stream packets rest
     → AreBytes stream
     → AllByRecursion HasByteData packets
-framed-bytes (ends may) all = tt
-framed-bytes (skips never framing) all = framed-bytes framing (λ k d h. all (suc k) d (omega (arith, h)))
-framed-bytes (finds whole is framing) all =
-    let parts = found-bytes _ _ _ _ whole is all in (parts.0, framed-bytes framing parts.1)
+AreBytes-framed (ends may) all = tt
+AreBytes-framed (skips never framing) all = AreBytes-framed framing (λ k d h. all (suc k) d (omega (arith, h)))
+AreBytes-framed (finds whole is framing) all =
+    let parts = AreBytes-packet _ _ _ _ whole is all in (parts.0, AreBytes-framed framing parts.1)
 
-drop-packets : (n : ℕ) (packets : List Packet) → AllByRecursion HasByteData packets
+HasByteData-drop : (n : ℕ) (packets : List Packet) → AllByRecursion HasByteData packets
     → AllByRecursion HasByteData (drop n packets)
-drop-packets zero packets all = all
-drop-packets (suc n) [] all = tt
-drop-packets (suc n) (packet ∷ packets) all = drop-packets n packets all.1
+HasByteData-drop zero packets all = all
+HasByteData-drop (suc n) [] all = tt
+HasByteData-drop (suc n) (packet ∷ packets) all = HasByteData-drop n packets all.1
 
-joined-inputs : (packets : List Packet) (inputs : List Input) → AllByRecursion HasByteData packets
+PacketBodyIsBytes-joined : (packets : List Packet) (inputs : List Input) → AllByRecursion HasByteData packets
     → AllByRecursion PacketBodyIsBytes inputs → AllByRecursion PacketBodyIsBytes (map Received packets ++ inputs)
-joined-inputs [] inputs all more = more
-joined-inputs (packet ∷ packets) inputs all more = (all.0, joined-inputs packets inputs all.1 more)
+PacketBodyIsBytes-joined [] inputs all more = more
+PacketBodyIsBytes-joined (packet ∷ packets) inputs all more =
+    (all.0, PacketBodyIsBytes-joined packets inputs all.1 more)
 
-pub items_are_of_bytes : InputsAreOfBytes
-items_are_of_bytes stream [] all = tt
-items_are_of_bytes stream (Chunk bytes ∷ events) all =
+pub inputs_are_of_bytes : InputsAreOfBytes
+inputs_are_of_bytes stream [] all = tt
+inputs_are_of_bytes stream (Chunk bytes ∷ events) all =
     let grouped : AreBytes ((stream ++ bytes) ++ bytes_in events) =
     subst AreBytes (sym (append_assoc stream bytes (bytes_in events))) all in
-    joined-inputs (new_packets stream bytes) (inputs_of (stream ++ bytes) events)
-    (drop-packets (length (packets_in stream)) (packets_in (stream ++ bytes))
-    (framed-bytes (framing_of (stream ++ bytes)) (front-bytes (stream ++ bytes) (bytes_in events) grouped)))
-    (items_are_of_bytes (stream ++ bytes) events grouped)
-items_are_of_bytes stream (Line line ∷ events) all = (tt, items_are_of_bytes stream events all)
+    PacketBodyIsBytes-joined (new_packets stream bytes) (inputs_of (stream ++ bytes) events)
+    (HasByteData-drop (length (packets_in stream)) (packets_in (stream ++ bytes))
+    (AreBytes-framed (framing_of (stream ++ bytes)) (AreBytes-front (stream ++ bytes) (bytes_in events) grouped)))
+    (inputs_are_of_bytes (stream ++ bytes) events grouped)
+inputs_are_of_bytes stream (Line line ∷ events) all = (tt, inputs_are_of_bytes stream events all)

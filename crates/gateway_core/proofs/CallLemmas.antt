@@ -10,14 +10,14 @@ use Rattle.gateway_core.specs.Handling.{Handles, HandlerValue}
 use Rattle.gateway_core.specs.Calls.{GatewayValue, Call, Bytes, Next, Order, Transitions, bytes_of, answers_of}
 use Rattle.gateway_core.specs.Calls.{AreInputs, CallsAreARun, BytesOneByOne}
 use Rattle.gateway_core.proofs.HandlesLemmas.{handles-nothing, handles-append}
-use Rattle.gateway_core.proofs.ChunkLemmas.{rest_goes_on}
+use Rattle.gateway_core.proofs.ChunkLemmas.{rest_of-may_become_packet}
 
 -- no packet is complete in these bytes
 abbrev IsRest : List ℕ → Type 0
 IsRest rest = ([] ≡ packets_in rest) × (rest ≡ rest_of rest)
 
 rest-is_rest : (stream : List ℕ) → IsRest (rest_of stream)
-rest-is_rest stream = packets_and_rest-may_become (rest_of stream) (rest_goes_on stream)
+rest-is_rest stream = packets_and_rest-may_become (rest_of stream) (rest_of-may_become_packet stream)
 
 module _ {S : Type 0} (stored : S → DeviceStoreState) where
   -- the theorem, from any gateway
@@ -29,9 +29,9 @@ module _ {S : Type 0} (stored : S → DeviceStoreState) where
     in_order : AreInputs calls handled inputs
     run : Handles stored old.handler inputs (answers_of calls) new.handler
 
-  goes_on : (old : GatewayValue S) (calls : List Call) (new : GatewayValue S) → IsRest old.rest
+  transitions-are_run : (old : GatewayValue S) (calls : List Call) (new : GatewayValue S) → IsRest old.rest
       → Transitions stored old calls new → GoesOn old calls new
-  goes_on old [] new is_rest same = record {
+  transitions-are_run old [] new is_rest same = record {
     handled = [];
     inputs = [];
     packets = rw (same, append-nil old.rest, sym is_rest.0, append-nil old.ready);
@@ -39,8 +39,8 @@ module _ {S : Type 0} (stored : S → DeviceStoreState) where
     in_order = (refl, refl);
     run = rw same (handles-nothing stored old.handler);
   }
-  goes_on old (Bytes bytes ∷ calls) new is_rest (mid, (none, same, ready, rest), moves) =
-      let on = goes_on mid calls new (rw rest (rest-is_rest (old.rest ++ bytes))) moves in
+  transitions-are_run old (Bytes bytes ∷ calls) new is_rest (mid, (none, same, ready, rest), moves) =
+      let on = transitions-are_run mid calls new (rw rest (rest-is_rest (old.rest ++ bytes))) moves in
       let parts = framing_in_parts (old.rest ++ bytes) (bytes_of calls) in
       let joined = append_assoc old.rest bytes (bytes_of calls) in
       record {
@@ -52,8 +52,8 @@ module _ {S : Type 0} (stored : S → DeviceStoreState) where
         run = let P : HandlerValue S → Type 0 =
             λ handler. Handles stored handler on.inputs (answers_of calls) new.handler in subst P same on.run;
       }
-  goes_on old (Next None ∷ calls) new is_rest (mid, (none, same), moves) =
-      let on = goes_on old calls new is_rest (rw same at moves) in
+  transitions-are_run old (Next None ∷ calls) new is_rest (mid, (none, same), moves) =
+      let on = transitions-are_run old calls new is_rest (rw same at moves) in
       record {
         handled = on.handled;
         inputs = on.inputs;
@@ -62,8 +62,8 @@ module _ {S : Type 0} (stored : S → DeviceStoreState) where
         in_order = on.in_order;
         run = on.run;
       }
-  goes_on old (Next (Some answer) ∷ calls) new is_rest (mid, (packet, first, rest, handles), moves) =
-      let on = goes_on mid calls new (rw rest is_rest) moves in
+  transitions-are_run old (Next (Some answer) ∷ calls) new is_rest (mid, (packet, first, rest, handles), moves) =
+      let on = transitions-are_run mid calls new (rw rest is_rest) moves in
       record {
         handled = packet ∷ on.handled;
         inputs = Received packet ∷ on.inputs;
@@ -73,8 +73,8 @@ module _ {S : Type 0} (stored : S → DeviceStoreState) where
         run = handles-append stored old.handler mid.handler new.handler (Received packet ∷ []) on.inputs (answer ∷ [])
             (answers_of calls) handles on.run;
       }
-  goes_on old (Order line answer ∷ calls) new is_rest (mid, (ready, rest, handles), moves) =
-      let on = goes_on mid calls new (rw rest is_rest) moves in
+  transitions-are_run old (Order line answer ∷ calls) new is_rest (mid, (ready, rest, handles), moves) =
+      let on = transitions-are_run mid calls new (rw rest is_rest) moves in
       record {
         handled = on.handled;
         inputs = Ordered line ∷ on.inputs;
@@ -87,7 +87,7 @@ module _ {S : Type 0} (stored : S → DeviceStoreState) where
 
   pub calls_are_a_run : CallsAreARun stored
   calls_are_a_run base registry calls new moves =
-      let on = goes_on _ calls new (packets_and_rest-may_become [] empty_may_become) moves in
+      let on = transitions-are_run _ calls new (packets_and_rest-may_become [] empty_may_become) moves in
       record {
         handled = on.handled;
         inputs = on.inputs;

@@ -62,23 +62,23 @@ spread-prepend_to_first stream bytes text texts [] = received-append stream byte
 spread-prepend_to_first stream bytes text texts (line ∷ lines) =
     simp (received-append stream bytes text, append_assoc)
 
-front_cons : (bytes : List ℕ) (texts : List (List ℕ))
+prepend_to_first-is_cons : (bytes : List ℕ) (texts : List (List ℕ))
     → (text : List ℕ) × (others : List (List ℕ)) × (prepend_to_first bytes texts ≡ text ∷ others)
-front_cons bytes [] = (bytes, [], refl)
-front_cons bytes (text ∷ texts) = (bytes ++ text, texts, refl)
+prepend_to_first-is_cons bytes [] = (bytes, [], refl)
+prepend_to_first-is_cons bytes (text ∷ texts) = (bytes ++ text, texts, refl)
 
-between_cons : (events : List InputEvent)
+bytes_between-is_cons : (events : List InputEvent)
     → (text : List ℕ) × (others : List (List ℕ)) × (bytes_between events ≡ text ∷ others)
-between_cons [] = ([], [], refl)
-between_cons (Chunk bytes ∷ events) = front_cons bytes (bytes_between events)
-between_cons (Line line ∷ events) = ([], bytes_between events, refl)
+bytes_between-is_cons [] = ([], [], refl)
+bytes_between-is_cons (Chunk bytes ∷ events) = prepend_to_first-is_cons bytes (bytes_between events)
+bytes_between-is_cons (Line line ∷ events) = ([], bytes_between events, refl)
 
 inputs_of-spread : (stream : List ℕ) (events : List InputEvent)
     → inputs_of stream events ≡ spread stream (bytes_between events) (desk_lines_in events)
 unfolding spread
 inputs_of-spread stream [] = simp (new_packets-nil stream)
 inputs_of-spread stream (Chunk bytes ∷ events) =
-    let (text, others, is) = between_cons events in
+    let (text, others, is) = bytes_between-is_cons events in
     let rest = rw is at (inputs_of-spread (stream ++ bytes) events) in
     rw is (sym (spread-prepend_to_first stream bytes text others (desk_lines_in events)
     ∙ ap (λ inputs. map Received (new_packets stream bytes) ++ inputs) (sym rest)))
@@ -102,11 +102,11 @@ answers_do_not_depend_on_chunks s events others old left right results after ans
 
 -- ---- only the rest of the stream matters
 
-pub rest_goes_on : (s : List ℕ) → MayBecomePacket (rest_of s)
-rest_goes_on s = rest_may_become (framing_of s)
+pub rest_of-may_become_packet : (s : List ℕ) → MayBecomePacket (rest_of s)
+rest_of-may_become_packet s = rest_may_become (framing_of s)
 
 rest_of-rest_of : (stream : List ℕ) → rest_of (rest_of stream) ≡ rest_of stream
-rest_of-rest_of stream = sym (packets_and_rest-may_become (rest_of stream) (rest_goes_on stream)).1
+rest_of-rest_of stream = sym (packets_and_rest-may_become (rest_of stream) (rest_of-may_become_packet stream)).1
 
 -- the inputs of events depend only on the rest of the stream
 inputs_of-rest : (stream : List ℕ) (events : List InputEvent)
@@ -129,14 +129,14 @@ bytes_in-append (Chunk bytes ∷ events) more =
 bytes_in-append (Line line ∷ events) more = bytes_in-append events more
 
 -- more events after those that left this rest
-pub items_behind : (old mid : List ℕ) (events more : List InputEvent) → mid ≡ rest_of (old ++ bytes_in events)
+pub inputs_of-more_events : (old mid : List ℕ) (events more : List InputEvent) → mid ≡ rest_of (old ++ bytes_in events)
     → inputs_of old (events ++ more) ≡ inputs_of old events ++ inputs_of mid more
-items_behind old mid events more is =
+inputs_of-more_events old mid events more is =
     cc (inputs_of-append old events more, inputs_of-rest (old ++ bytes_in events) more)
 
-pub rest_behind : (old mid : List ℕ) (events more : List InputEvent) → mid ≡ rest_of (old ++ bytes_in events)
+pub rest_of-more_events : (old mid : List ℕ) (events more : List InputEvent) → mid ≡ rest_of (old ++ bytes_in events)
     → rest_of (mid ++ bytes_in more) ≡ rest_of (old ++ bytes_in (events ++ more))
-rest_behind old mid events more is = cc (
+rest_of-more_events old mid events more is = cc (
   (framing_in_parts (old ++ bytes_in events) (bytes_in more)).1,
   append_assoc old (bytes_in events) (bytes_in more),
   bytes_in-append events more,

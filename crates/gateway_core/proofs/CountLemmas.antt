@@ -15,13 +15,13 @@ use Rattle.gateway_core.specs.Run.{InputResult, Applied, state_after_result, fai
 use Rattle.gateway_core.proofs.EffectLemmas.{of_packet, of_line, of_effect}
 use Rattle.json_lines.proofs.ForCallers.{of_teach_lines}
 
-pub count_on : (a b c n m : ℕ) → b ≡ saturated_sum a n → c ≡ saturated_sum b m → c ≡ saturated_sum a (n + m)
-count_on a b c n m is on = omega (arith, is, on)
+pub saturated_sum-twice : (a b c n m : ℕ) → b ≡ saturated_sum a n → c ≡ saturated_sum b m → c ≡ saturated_sum a (n + m)
+saturated_sum-twice a b c n m is on = omega (arith, is, on)
 
 -- an applied input is not counted as failed
-without_failure : (state : State) (input : Input)
+applied-not_counted_as_failed : (state : State) (input : Input)
     → (increment_if_any state.counts (counter_for_applied_input state input)).refused ≡ state.counts.refused
-without_failure state =
+applied-not_counted_as_failed state =
     of_effect (λ e. (increment_if_any state.counts (counter_in e.disposition)).refused ≡ state.counts.refused) state
     (λ packet. search rules) (λ line. search rules)
 
@@ -42,12 +42,12 @@ applied_packets_are_counted = record {
 -- ---- the line that explains a packet
 
 -- with a word that counts as ignored, the desk receives no other line
-ignoring-says : (why : HandlingReason) → counter_for why ≡ count.Ignored → MatchesDeskLines why []
-ignoring-says why.Failed is = absurd cc
-ignoring-says why.Response is = absurd cc
-ignoring-says (why.TeachIn outcome) is = absurd cc
-ignoring-says why.Read is = absurd cc
-ignoring-says why is = refl
+ignored-writes_no_line : (why : HandlingReason) → counter_for why ≡ count.Ignored → MatchesDeskLines why []
+ignored-writes_no_line why.Failed is = absurd cc
+ignored-writes_no_line why.Response is = absurd cc
+ignored-writes_no_line (why.TeachIn outcome) is = absurd cc
+ignored-writes_no_line why.Read is = absurd cc
+ignored-writes_no_line why is = refl
 
 -- an applied packet has a disposition, whose word is that of what the desk receives
 abbrev HasAccount : Effect → Type 0
@@ -56,7 +56,7 @@ HasAccount e =
 
 explained : (state : State) (packet : Packet) (result : InputResult) → IsExplained state packet result
 explained state packet Applied =
-    let (disposition, is, says) = of_packet HasAccount state packet (search (rules, ignoring-says)) in
+    let (disposition, is, says) = of_packet HasAccount state packet (search (rules, ignored-writes_no_line)) in
     record {
       disposition = disposition;
       is = is;
@@ -83,12 +83,12 @@ pub failures_are_counted : FailuresAreCounted
 failures_are_counted old new [] [] [] run fits =
     let same = ap (λ (s : State). s.counts.refused) run in omega (arith, same, fits)
 failures_are_counted old new (input ∷ inputs) (Applied ∷ results) (answer ∷ answers) run fits =
-    let same = without_failure old input in
+    let same = applied-not_counted_as_failed old input in
     failures_are_counted (state_after_result old input Applied) new inputs results answers run.2
     (omega (arith, same, fits))
     ∙ ap (λ count. saturated_sum count (failure_count results)) same
 failures_are_counted old new (input ∷ inputs) (failed ∷ results) (answer ∷ answers) run fits =
-    count_on old.counts.refused (saturated_increment old.counts.refused) new.counts.refused 1
+    saturated_sum-twice old.counts.refused (saturated_increment old.counts.refused) new.counts.refused 1
     (failure_count results) refl
     (failures_are_counted (state_after_result old input failed) new inputs results answers run.2 (omega arith))
 failures_are_counted old new inputs results answers run fits = absurd run

@@ -18,18 +18,18 @@ over first second =
           (second.possible_devices ++ first.possible_devices);
     }
 
-over-result : (first second : CrashStates) (state : State) (input : Input) (result : InputResult)
+crash_states_after_result-over : (first second : CrashStates) (state : State) (input : Input) (result : InputResult)
     → crash_states_after_result (over first second) state input result
     ≡ over first (crash_states_after_result second state input result)
-over-result first second state input result = grind arith
+crash_states_after_result-over first second state input result = grind arith
 
-over-crash_states : (first second : CrashStates) (state : State) (inputs : List Input) (results : List InputResult)
+crash_states-over : (first second : CrashStates) (state : State) (inputs : List Input) (results : List InputResult)
     → crash_states (over first second) state inputs results ≡ over first (crash_states second state inputs results)
-over-crash_states first second state (input ∷ inputs) (result ∷ results) =
-    rw (over-result first second state input result)
-    (over-crash_states first (crash_states_after_result second state input result)
+crash_states-over first second state (input ∷ inputs) (result ∷ results) =
+    rw (crash_states_after_result-over first second state input result)
+    (crash_states-over first (crash_states_after_result second state input result)
     (state_after_result state input result) inputs results)
-over-crash_states first second state inputs results = refl
+crash_states-over first second state inputs results = refl
 
 -- the inputs after others, from the crash states of these
 pub crash_states-append : (left : CrashStates) (state : State) (inputs others : List Input)
@@ -42,19 +42,21 @@ crash_states-append left state (input ∷ inputs) others (result ∷ results) mo
     inputs others results more (omega (arith, as_many))
 crash_states-append left state inputs others results more as_many = absurd (omega (arith, as_many))
 
-among_left : (left right : List Devices) (devices : Devices) → IsOneOf left devices → IsOneOf (left ++ right) devices
-among_left (first ∷ left) right devices (inl is) = inl is
-among_left (first ∷ left) right devices (inr is) = inr (among_left left right devices is)
-among_left [] right devices is = absurd is
+IsOneOf-append_left : (left right : List Devices) (devices : Devices) → IsOneOf left devices
+    → IsOneOf (left ++ right) devices
+IsOneOf-append_left (first ∷ left) right devices (inl is) = inl is
+IsOneOf-append_left (first ∷ left) right devices (inr is) = inr (IsOneOf-append_left left right devices is)
+IsOneOf-append_left [] right devices is = absurd is
 
-among_right : (left right : List Devices) (devices : Devices) → IsOneOf right devices → IsOneOf (left ++ right) devices
-among_right [] right devices is = is
-among_right (first ∷ left) right devices is = inr (among_right left right devices is)
+IsOneOf-append_right : (left right : List Devices) (devices : Devices) → IsOneOf right devices
+    → IsOneOf (left ++ right) devices
+IsOneOf-append_right [] right devices is = is
+IsOneOf-append_right (first ∷ left) right devices is = inr (IsOneOf-append_right left right devices is)
 
-consistent-over : (Before : Devices → Type 0) (first second : CrashStates) (devices : Devices)
+crash_consistent-over : (Before : Devices → Type 0) (first second : CrashStates) (devices : Devices)
     → IsCrashConsistent (IsCrashConsistent Before first) second devices
     → IsCrashConsistent Before (over first second) devices
-consistent-over Before first second devices consistent = grind (arith, among_left, among_right)
+crash_consistent-over Before first second devices consistent = grind (arith, IsOneOf-append_left, IsOneOf-append_right)
 
 pub crash_consistency_composes : (Before : Devices → Type 0) → CrashConsistencyComposes Before
 crash_consistency_composes Before old mid inputs others results more answers devices run safe =
@@ -64,39 +66,44 @@ crash_consistency_composes Before old mid inputs others results more answers dev
     ≡ over first (crash_states nothing_committed_yet mid others more) =
     crash_states-append nothing_committed_yet old inputs others results more ends.0
     ∙ ap (λ state. crash_states first state others more) (sym ends.1)
-    ∙ over-crash_states first nothing_committed_yet mid others more in
-    rw is (consistent-over Before first (crash_states nothing_committed_yet mid others more) devices safe)
+    ∙ crash_states-over first nothing_committed_yet mid others more in
+    rw is (crash_consistent-over Before first (crash_states nothing_committed_yet mid others more) devices safe)
 
-pub safe-weaker : (P Q : Devices → Type 0) → ((devices : Devices) → P devices → Q devices)
+pub crash_consistent-weaker : (P Q : Devices → Type 0) → ((devices : Devices) → P devices → Q devices)
     → (left : CrashStates) (devices : Devices) → IsCrashConsistent P left devices → IsCrashConsistent Q left devices
-safe-weaker P Q weaker left devices safe = grind (arith, weaker)
+crash_consistent-weaker P Q weaker left devices safe = grind (arith, weaker)
 
-pub safe-pending : (Before : Devices → Type 0) (left : CrashStates) (known : Devices) (update : Option DeviceUpdate)
+pub crash_consistent-with_pending : (Before : Devices → Type 0) (left : CrashStates) (known : Devices)
+    (update : Option DeviceUpdate)
     (devices : Devices)
     → IsCrashConsistent Before left devices → IsCrashConsistent Before (with_pending_update left known update) devices
-safe-pending Before left known update devices safe = grind arith
+crash_consistent-with_pending Before left known update devices safe = grind arith
 
-safe-committed : (Before : Devices → Type 0) (left : CrashStates) (known : Devices) (update : Option DeviceUpdate)
+crash_consistent-after_committed : (Before : Devices → Type 0) (left : CrashStates) (known : Devices)
+    (update : Option DeviceUpdate)
     → IsCrashConsistent Before left known
     → IsCrashConsistent Before (after_committed_update left known update) (with_update known update)
-safe-committed Before left known update safe = grind arith
+crash_consistent-after_committed Before left known update safe = grind arith
 
 -- the devices after one input are crash-consistent
-pub safe-step : (Before : Devices → Type 0) (left : CrashStates) (state : State) (input : Input) (result : InputResult)
+pub crash_consistent-after_input : (Before : Devices → Type 0) (left : CrashStates) (state : State) (input : Input)
+    (result : InputResult)
     → IsCrashConsistent Before left state.devices
     → IsCrashConsistent Before (crash_states_after_result left state input result)
     (state_after_result state input result).devices
-safe-step Before left state input Applied safe = safe-committed Before left state.devices (update_of state input) safe
-safe-step Before left state input (Failed cause) safe = safe
-safe-step Before left state input (FailedAtCommit cause) safe =
-    safe-pending Before left state.devices (update_of state input) state.devices safe
+crash_consistent-after_input Before left state input Applied safe = crash_consistent-after_committed Before left
+    state.devices (update_of state input) safe
+crash_consistent-after_input Before left state input (Failed cause) safe = safe
+crash_consistent-after_input Before left state input (FailedAtCommit cause) safe =
+    crash_consistent-with_pending Before left state.devices (update_of state input) state.devices safe
 
 -- so are those after a run
-pub safe-after_run : (Before : Devices → Type 0) (left : CrashStates) (state : State) (inputs : List Input)
+pub crash_consistent-after_run : (Before : Devices → Type 0) (left : CrashStates) (state : State) (inputs : List Input)
     (results : List InputResult)
     → IsCrashConsistent Before left state.devices
     → IsCrashConsistent Before (crash_states left state inputs results) (state_after_run state inputs results).devices
-safe-after_run Before left state (input ∷ inputs) (result ∷ results) safe =
-    safe-after_run Before (crash_states_after_result left state input result) (state_after_result state input result)
-    inputs results (safe-step Before left state input result safe)
-safe-after_run Before left state inputs results safe = safe
+crash_consistent-after_run Before left state (input ∷ inputs) (result ∷ results) safe =
+    crash_consistent-after_run Before (crash_states_after_result left state input result)
+    (state_after_result state input result)
+    inputs results (crash_consistent-after_input Before left state input result safe)
+crash_consistent-after_run Before left state inputs results safe = safe

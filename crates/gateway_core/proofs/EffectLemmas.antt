@@ -54,9 +54,9 @@ use Rattle.actuator_commands.specs.Packets.{order_telegram}
 use Rattle.gateway_core.specs.Reporting.{IsSentByOrder}
 
 -- by a test, one thing is chosen or the other
-pub by_test : {A : Type 0} (P : A → Type 0) (test : Bool) (one other : A) → (test ≡ true → P one)
+pub if-either : {A : Type 0} (P : A → Type 0) (test : Bool) (one other : A) → (test ≡ true → P one)
     → (test ≡ false → P other) → P (if test then one else other)
-by_test P test one other if_true if_false = grind arith
+if-either P test one other if_true if_false = grind arith
 
 -- a device that is found is found under its own ID
 device_of-known : (devices : Devices) (id : ℕ) (known : Device) → device_of devices id ≡ Some known
@@ -76,8 +76,8 @@ IsTeaching kind =
 pub teaches : (kind : Teach) (known : Option Device) → IsTeaching kind → case_by_role kind known ≡ TeachInTelegram
 teaches kind known is = grind arith
 
-pub not-data : (kind : Teach) → IsTeaching kind → kind ≢ teach.Plain
-not-data kind is plain = grind arith
+pub teaching-not_plain : (kind : Teach) → IsTeaching kind → kind ≢ teach.Plain
+teaching-not_plain kind is plain = grind arith
 
 -- ---- a sender that is rejected
 
@@ -87,8 +87,8 @@ IsRefusal Accepted = ⊥
 IsRefusal Deleted = ⊥
 IsRefusal outcome = Unit {0}
 
-refused-is-refusal : (kind : Teach) (outcome : Outcome) → Refuses kind outcome → IsRefusal outcome
-refused-is-refusal kind outcome is = grind arith
+Refuses-is_refusal : (kind : Teach) (outcome : Outcome) → Refuses kind outcome → IsRefusal outcome
+Refuses-is_refusal kind outcome is = grind arith
 
 -- ---- whatever the reason, an ignored packet is counted as ignored
 
@@ -128,7 +128,7 @@ module _ (P : Effect → Type 0) (state : State) (t : Telegram) (each : OfTelegr
             (each.learns hears eep maker known planned);
         forgets = λ learning asks planned. each.forgets learning asks;
         refuses = λ hears outcome is planned. each.refuses hears _ (query_teach_line t.sender (teach_in_of t) outcome)
-            (refused-is-refusal (teach_in_of t) outcome is);
+            (Refuses-is_refusal (teach_in_of t) outcome is);
       }) refl
 
   of-case : (case : TelegramCase) → P (case_effect state t case)

@@ -1,7 +1,8 @@
 -- The lines that explain packets are true.
+use Rattle.std.proofs.lemmas.Grind.{common_steps}
 use Rattle.std.proofs.Common.{◌≡◌, ◌≢◌, ℕ, Bool, true, false, List, [], ◌∷◌, Option, Some, None, refl, ap, ◌∙◌, arith}
-use Rattle.std.proofs.Common.{eqb-true, Result, Ok, Err, inl, inr}
-use Rattle.std.specs.Prelude.{◌==◌, is_some}
+use Rattle.std.proofs.Common.{eqb-true, Result, Ok, Err}
+use Rattle.std.specs.Prelude.{◌==◌}
 use Rattle.std.proofs.lemmas.Bool.{eqb-false}
 use Rattle.esp3_frames.specs.Packet.{Packet}
 use Rattle.erp1_telegrams.specs.declared.eep.Eep.{Eep}
@@ -22,7 +23,7 @@ use Rattle.teach_in.specs.declared.telegrams.Teach.{Teach}
 use Rattle.teach_in.specs.declared.telegrams.Teach.TheVariants as teach
 use Rattle.teach_in.specs.Profiles.{supported}
 use Rattle.teach_in.specs.Telegrams.{teach_in_of}
-use Rattle.teach_in.specs.Plans.{ute_plan, plan_in_mode, plan_of, plan_row_of, add_if_supported}
+use Rattle.teach_in.specs.Plans.{ute_plan, plan_in_mode, plan_of, plan_row_of}
 use Rattle.teach_in.specs.Ute.{request_in, unused_request}
 use Rattle.teach_in.proofs.ForCallers.{LearnsByTeachIn, hears-open, of_plan, Hears}
 use Rattle.gateway_state.specs.declared.handling_reason.HandlingReason.TheVariants as why
@@ -38,8 +39,8 @@ use Rattle.gateway_core.specs.Step.{packet_effect_from, packet_effect, plan_effe
 use Rattle.gateway_core.specs.Step.{silent_effect}
 use Rattle.std.specs.Option.{option_map}
 use Rattle.std.proofs.lemmas.Bool.Decides.{nat_tests}
-use Rattle.gateway_core.proofs.EffectLemmas.{by_test}
-use Rattle.gateway_core.proofs.WindowLemmas.{open-not-closed}
+use Rattle.gateway_core.proofs.EffectLemmas.{if-either}
+use Rattle.gateway_core.proofs.WindowLemmas.{IsOpen-not_closed}
 use Rattle.profile_rows.specs.declared.unreadable.Unreadable.TheVariants as unreadable
 
 -- if the effect is that of the packet, its disposition is true
@@ -59,7 +60,7 @@ module _ (state : State) (packet : Packet) (fault : TelegramFault) (none : teleg
   -- it is a response, or it is none
   of-response : Truth state packet (non_telegram_effect packet (response_in packet))
   of-response =
-      by_test (λ response. Truth state packet (non_telegram_effect packet response)) (packet.kind == 2) _ _
+      if-either (λ response. Truth state packet (non_telegram_effect packet response)) (packet.kind == 2) _ _
       (λ two. of-body packet.body refl (eqb-true packet.kind 2 two))
       (λ not_two. of-no_response (λ two. absurd (eqb-false packet.kind 2 not_two two)))
     where
@@ -78,10 +79,6 @@ RefusalMeans kind NoProfile = kind ≡ teach.Bare
 RefusalMeans kind outcome = ⊥
 
 module _ (t : Telegram) (known : Bool) where
-  unsupported-means : (kind : Teach) (eep : Eep) (maker : ℕ) (outcome : Outcome) → eep_in_query kind ≡ Some eep
-      → add_if_supported t eep maker ≡ Refuse outcome → RefusalMeans kind outcome
-  unsupported-means kind eep maker outcome asked refuses = grind arith
-
   ute-means : (query : UteQuery) (outcome : Outcome) → ute_plan t query ≡ Refuse outcome
       → RefusalMeans (teach.Ute query) outcome
   ute-means query outcome refuses = grind (arith, nat_tests)
@@ -89,8 +86,7 @@ module _ (t : Telegram) (known : Bool) where
   own_plan-means : (kind : Teach) (outcome : Outcome) → (plan_row_of t known kind).by_own_profile ≡ Refuse outcome
       → RefusalMeans kind outcome
   own_plan-means teach.Bare outcome refuses = let same : NoProfile ≡ outcome = cc in rw (← same) refl
-  own_plan-means (teach.FourByte query) outcome refuses =
-      unsupported-means (teach.FourByte query) query.eep query.maker outcome refl refuses
+  own_plan-means (teach.FourByte query) outcome refuses = grind (arith, common_steps)
   own_plan-means (teach.Ute query) outcome refuses = ute-means query outcome refuses
   own_plan-means kind outcome refuses = absurd cc
 
@@ -109,9 +105,9 @@ module _ (t : Telegram) (known : Bool) where
   speaks kind is silent = grind arith
 
   -- in the mode for one sender there is no plan if the desk's profile does not fit
-  does-not-fit : (kind : Teach) (eep : Eep) → IsTeachInRequest kind
+  silent-rorg_differs : (kind : Teach) (eep : Eep) → IsTeachInRequest kind
       → (plan_row_of t known kind).by_desk_profile eep ≡ Silent → RorgDoesNotFitTeachIn eep kind
-  does-not-fit kind eep is silent = grind (arith, nat_tests)
+  silent-rorg_differs kind eep is silent = grind (arith, nat_tests)
 
 -- ---- a telegram
 
@@ -135,13 +131,13 @@ module _ (state : State) (packet : Packet) (t : Telegram) (carried : telegram_of
     of-planned asked known same silent =
         let planned : IsPlanned state t (plan_of t state.mode known) = ap (plan_of t state.mode) same in
         let opened = λ (hears : Hears state.mode (teach_in_of t)).
-        open-not-closed state.mode (hears-open state.mode (teach_in_of t) hears) in
+        IsOpen-not_closed state.mode (hears-open state.mode (teach_in_of t) hears) in
         of_plan (λ plan. plan_of t state.mode known ≡ plan → Truth state packet (plan_effect state t asked plan)) t
         state.mode known (record {
           silent = silent;
           adds = λ hears eep maker is.
               let device : Device = record { id = t.sender; eep = eep; maker = maker; label = [] } in
-              by_test (Truth state packet) (is_full_for state.devices t.sender) _ _
+              if-either (Truth state packet) (is_full_for state.devices t.sender) _ _
               (λ full update. (
                 _,
                 refl,
@@ -185,7 +181,7 @@ module _ (state : State) (packet : Packet) (t : Telegram) (carried : telegram_of
         by_mode (mode.LearnAs eep) is silent update = (
           _,
           refl,
-          (t, heard, teaches, (eep, is, does-not-fit t known (teach_in_of t) eep teaches silent), (refl, refl)),
+          (t, heard, teaches, (eep, is, silent-rorg_differs t known (teach_in_of t) eep teaches silent), (refl, refl)),
         )
         by_mode mode is silent update = absurd (speaks t known (teach_in_of t) teaches silent)
 
@@ -193,19 +189,14 @@ module _ (state : State) (packet : Packet) (t : Telegram) (carried : telegram_of
     of-reading : (known : Device) → IsDataOf state packet t known → (readings : Result (List Entry) Unreadable)
         → read_by known.eep t ≡ readings → Truth state packet (reading_effect t known readings)
     of-reading known of (Ok readings) is update = (_, refl, (t, known, readings, of, is, (refl, refl)))
-    of-reading known of (Err unreadable.NotSupported) is update =
-        (_, refl, (t, known, _, of, is, inr refl, (refl, refl)))
-    of-reading known of (Err unreadable.OtherMessage) is update =
-        (_, refl, (t, known, _, of, is, inl refl, (refl, refl)))
+    of-reading known of (Err unreadable.NotSupported) is update = grind (arith, common_steps)
+    of-reading known of (Err unreadable.OtherMessage) is update = grind (arith, common_steps)
     of-reading known of (Err fault) is update = (_, refl, (t, known, _, of, is, refl, (refl, refl)))
 
     of-data : (known : Option Device) → teach_in_of t ≡ teach.Plain → device_of state.devices t.sender ≡ known
         → Truth state packet (case_effect state t (data_case known))
-    of-data None plain is =
-        of-planned true false (ap is_some is) (λ silent update. (_, refl, (t, heard, plain, is, update, (refl, refl))))
-    of-data (Some known) plain is =
-        of-reading known (record { not_filtered_out = heard; is_plain = plain; is_known = is })
-        (read_by known.eep t) refl
+    of-data None plain is = grind (arith, common_steps, of-planned)
+    of-data (Some known) plain is = grind (arith, common_steps, of-reading)
 
     of-kind : (kind : Teach) → teach_in_of t ≡ kind
         → Truth state packet (case_effect state t (case_by_role kind (device_of state.devices t.sender)))
@@ -215,7 +206,7 @@ module _ (state : State) (packet : Packet) (t : Telegram) (carried : telegram_of
 
   of-telegram : Truth state packet (case_effect state t (case_of state t))
   of-telegram =
-      by_test (λ case. Truth state packet (case_effect state t case)) (is_filtered_out state.base t) _ _ of-filtered
+      if-either (λ case. Truth state packet (case_effect state t case)) (is_filtered_out state.base t) _ _ of-filtered
       (λ is. of-kind (record { carried = carried; not_filtered_out = is }) (teach_in_of t) refl)
 
 -- ---- each packet
@@ -230,21 +221,7 @@ of-packet state packet (Err fault) is = of-response state packet fault is
 shows : (packet : Packet) (disposition : Disposition) (carried : Result Telegram TelegramFault)
     → telegram_of packet ≡ carried
     → Shows packet disposition (shown_packet packet carried disposition)
-shows packet disposition (Err fault) is = (rw is refl, refl, refl)
-shows packet disposition (Ok t) is = (
-  t,
-  is,
-  record {
-    id = refl;
-    dest = grind (arith, nat_tests);
-    dbm = refl;
-    rorg = refl;
-    payload = refl;
-    status = refl;
-    eep = refl;
-    maker = refl;
-  },
-)
+shows packet disposition carried is = grind (arith, common_steps, common_steps)
 
 pub explanations_are_true : ExplanationsAreTrue
 explanations_are_true state packet =

@@ -9,7 +9,7 @@ use Rattle.gateway_core.specs.Step.{State, Input, Ordered, Answer, error_effect,
 use Rattle.gateway_core.specs.Run.{InputResult, Run}
 use Rattle.gateway_core.specs.CrashStates.{nothing_committed_yet, crash_states, IsCrashConsistent}
 use Rattle.gateway_core.specs.Handling.{HandlerValue, Handles}
-use Rattle.gateway_core.proofs.CrashLemmas.{crash_consistency_composes, safe-weaker}
+use Rattle.gateway_core.proofs.CrashLemmas.{crash_consistency_composes, crash_consistent-weaker}
 use Rattle.gateway_core.proofs.RunLemmas.{run-append}
 
 module _ {S : Type 0} (stored : S → DeviceStoreState) where
@@ -50,7 +50,7 @@ module _ {S : Type 0} (stored : S → DeviceStoreState) where
           crash = λ left may. crash_consistency_composes Before start from_first.last inputs more from_first.results
               from_second.results answers
               left from_first.run
-              (safe-weaker (stored mid.registry).may_recover
+              (crash_consistent-weaker (stored mid.registry).may_recover
               (IsCrashConsistent Before (crash_states nothing_committed_yet start inputs from_first.results))
               from_first.crash _ left (from_second.crash left may));
         };
@@ -58,42 +58,43 @@ module _ {S : Type 0} (stored : S → DeviceStoreState) where
 
 -- ---- lines that are too long
 
-effect-long : (start : State) (line : List ℕ) → max_line < length line
+too_long-effect : (start : State) (line : List ℕ) → max_line < length line
     → line_effect start line ≡ error_effect TooLong
-effect-long start line long = rw (lt-ltb max_line (length line) long)
+too_long-effect start line long = rw (lt-ltb max_line (length line) long)
 
 -- from_first run on one line depends only on its effect
-run_alike : (old new : State) (line other : List ℕ) (results : List InputResult) (answers : List Answer)
+run-depends_on_effect : (old new : State) (line other : List ℕ) (results : List InputResult) (answers : List Answer)
     → line_effect old line ≡ line_effect old other → Run old (Ordered line ∷ []) results answers new
     → Run old (Ordered other ∷ []) results answers new
-run_alike old new line other results answers same run = grind arith
+run-depends_on_effect old new line other results answers same run = grind arith
 
 -- and so do its crash states
-crash_states_alike : (old : State) (line other : List ℕ) (results : List InputResult)
+crash_states-depend_on_effect : (old : State) (line other : List ℕ) (results : List InputResult)
     → line_effect old line ≡ line_effect old other
     → crash_states nothing_committed_yet old (Ordered line ∷ []) results
     ≡ crash_states nothing_committed_yet old (Ordered other ∷ []) results
-crash_states_alike old line other results same = grind arith
+crash_states-depend_on_effect old line other results same = grind arith
 
 module _ {S : Type 0} (stored : S → DeviceStoreState) where
   -- two lines that are too long are handled alike
-  pub handles_alike : (old new : HandlerValue S) (short long : List ℕ) (answers : List Answer)
+  pub too_long-handled_alike : (old new : HandlerValue S) (short long : List ℕ) (answers : List Answer)
       → max_line < length short
       → max_line < length long → Handles stored old (Ordered short ∷ []) answers new
       → Handles stored old (Ordered long ∷ []) answers new
-  handles_alike old new short long answers over_by_short over_by_long handled = record {
+  too_long-handled_alike old new short long answers over_by_short over_by_long handled = record {
     base = handled.base;
     clean = handled.clean;
     reopenable = handled.reopenable;
     commits = handled.commits;
     ran_from_any = λ honest start at.
-        let same = effect-long start short over_by_short ∙ sym (effect-long start long over_by_long) in
+        let same = too_long-effect start short over_by_short ∙ sym (too_long-effect start long over_by_long) in
         let from = handled.ran_from_any honest start at in
         record {
           results = from.results;
           last = from.last;
-          run = run_alike start from.last short long from.results answers same from.run;
+          run = run-depends_on_effect start from.last short long from.results answers same from.run;
           at = from.at;
-          crash = λ left may. rw (← crash_states_alike start short long from.results same) (from.crash left may);
+          crash = λ left may. rw (← crash_states-depend_on_effect start short long from.results same)
+              (from.crash left may);
         };
   }

@@ -10,7 +10,7 @@ use Rattle.gateway_core.specs.Prefixes.{HasAcknowledgedUpdate, NoUpdateAcknowled
 use Rattle.gateway_core.specs.Prefixes.{CrashStatesArePrefixes, AcknowledgedAreInPrefix, HasFailedNextUpdate}
 use Rattle.gateway_core.specs.Prefixes.{HasInterruptedUpdate, SessionsLeavePrefixes, PrefixesEndSessions}
 use Rattle.gateway_core.proofs.RunLemmas.{run-last}
-use Rattle.gateway_core.proofs.CrashLemmas.{crash_states-append, safe-after_run}
+use Rattle.gateway_core.proofs.CrashLemmas.{crash_states-append, crash_consistent-after_run}
 
 -- no input is in the prefix
 prefix-start : (state : State) (inputs : List Input) (results : List InputResult) (devices : Devices)
@@ -128,24 +128,25 @@ acknowledged-before state before after ahead behind input done more earlier late
     is =
     omega (arith, many, same)
 
-pub reported_stand_before : AcknowledgedAreInPrefix
-reported_stand_before start inputs ahead behind input results earlier later result devices prefix is are same
+pub acknowledged_are_in_prefix : AcknowledgedAreInPrefix
+acknowledged_are_in_prefix start inputs ahead behind input results earlier later result devices prefix is are same
     acknowledged =
     acknowledged-before start prefix.earlier_inputs prefix.later_inputs ahead behind input prefix.earlier_results
     prefix.later_results earlier later result (sym prefix.inputs_are ∙ is) (sym prefix.results_are ∙ are)
     prefix.as_many_results same (rw prefix.mid_is at prefix.later_unacknowledged) acknowledged
 
-stop_steps : (Before : Devices → Type 0) (left : CrashStates) (state : State) (interrupted : Option Input)
+interrupted-leaves_pending : (Before : Devices → Type 0) (left : CrashStates) (state : State)
+    (interrupted : Option Input)
     (devices : Devices)
     → IsCrashConsistent Before (with_interrupted left state interrupted) devices
     → IsCrashConsistent Before left devices ⊎ HasInterruptedUpdate state interrupted devices
-stop_steps Before left state interrupted devices safe = grind arith
+interrupted-leaves_pending Before left state interrupted devices safe = grind arith
 
 pub sessions_leave_prefixes : SessionsLeavePrefixes
 sessions_leave_prefixes session is =
     let start = initial_state session.base session.found in
     let as_many = (run-last start session.last session.inputs session.results session.answers is.run).0 in
-    elim (stop_steps (λ devices. devices ≡ session.found)
+    elim (interrupted-leaves_pending (λ devices. devices ≡ session.found)
     (crash_states nothing_committed_yet start session.inputs session.results)
     session.last
     session.interrupted_input session.left is.safe) [
@@ -157,46 +158,49 @@ sessions_leave_prefixes session is =
 
 module _ (Before : Devices → Type 0) where
   -- what is crash-consistent stays so, while no update is acknowledged
-  safe-unacknowledged : (left : CrashStates) (state : State) (inputs : List Input) (results : List InputResult)
+  crash_consistent-unacknowledged : (left : CrashStates) (state : State) (inputs : List Input)
+      (results : List InputResult)
       (devices : Devices)
       → IsCrashConsistent Before left devices → NoUpdateAcknowledged state inputs results
       → IsCrashConsistent Before (crash_states left state inputs results) devices
-  safe-unacknowledged left state (input ∷ inputs) (result ∷ results) devices safe none =
-      safe-unacknowledged (crash_states_after_result left state input result) (state_after_result state input result)
+  crash_consistent-unacknowledged left state (input ∷ inputs) (result ∷ results) devices safe none =
+      crash_consistent-unacknowledged (crash_states_after_result left state input result)
+      (state_after_result state input result)
       inputs results devices (after_one result none.0) none.1
     where
       after_one : (result : InputResult) → ¬ HasAcknowledgedUpdate state input result
           → IsCrashConsistent Before (crash_states_after_result left state input result) devices
       after_one result none = grind arith
-  safe-unacknowledged left state inputs results devices safe none = safe
+  crash_consistent-unacknowledged left state inputs results devices safe none = safe
 
-  safe-with_pending : (left : CrashStates) (known devices : Devices) (update : Option DeviceUpdate)
+  crash_consistent-pending_is_done : (left : CrashStates) (known devices : Devices) (update : Option DeviceUpdate)
       → IsCrashConsistent Before left known → devices ≡ with_update known update
       → IsCrashConsistent Before (with_pending_update left known update) devices
-  safe-with_pending left known devices update safe is = grind arith
+  crash_consistent-pending_is_done left known devices update safe is = grind arith
 
   -- the update of the first input may be there, if that failed at its commit
-  safe-failed_next : (left : CrashStates) (state : State) (inputs : List Input) (results : List InputResult)
+  crash_consistent-failed_next : (left : CrashStates) (state : State) (inputs : List Input) (results : List InputResult)
       (devices : Devices)
       → IsCrashConsistent Before left state.devices → NoUpdateAcknowledged state inputs results
       → HasFailedNextUpdate state inputs results devices
       → IsCrashConsistent Before (crash_states left state inputs results) devices
-  safe-failed_next left state (input ∷ inputs) (FailedAtCommit cause ∷ results) devices safe none is =
-      safe-unacknowledged (with_pending_update left state.devices (update_of state input))
+  crash_consistent-failed_next left state (input ∷ inputs) (FailedAtCommit cause ∷ results) devices safe none is =
+      crash_consistent-unacknowledged (with_pending_update left state.devices (update_of state input))
       (state_after_result state input (FailedAtCommit cause)) inputs results devices
-      (safe-with_pending left state.devices devices (update_of state input) safe is) none.1
-  safe-failed_next left state inputs results devices safe none is = absurd is
+      (crash_consistent-pending_is_done left state.devices devices (update_of state input) safe is) none.1
+  crash_consistent-failed_next left state inputs results devices safe none is = absurd is
 
-safe-prefix : (start : State) (inputs : List Input) (results : List InputResult) (devices : Devices)
+crash_consistent-after_prefix : (start : State) (inputs : List Input) (results : List InputResult) (devices : Devices)
     → AfterPrefix start inputs results devices
     → IsCrashConsistent (λ found. found ≡ start.devices) (crash_states nothing_committed_yet start inputs results)
     devices
-safe-prefix start inputs results devices prefix =
+crash_consistent-after_prefix start inputs results devices prefix =
     let Before = λ (found : Devices). found ≡ start.devices in
     let mid = state_after_run start prefix.earlier_inputs prefix.earlier_results in
     let left = crash_states nothing_committed_yet start prefix.earlier_inputs prefix.earlier_results in
     let safe =
-    safe-after_run Before nothing_committed_yet start prefix.earlier_inputs prefix.earlier_results (inr (refl, refl)) in
+    crash_consistent-after_run Before nothing_committed_yet start prefix.earlier_inputs prefix.earlier_results
+    (inr (refl, refl)) in
     let none = rw prefix.mid_is at prefix.later_unacknowledged in
     rw (
       prefix.inputs_are,
@@ -205,12 +209,13 @@ safe-prefix start inputs results devices prefix =
           prefix.later_inputs prefix.earlier_results prefix.later_results prefix.as_many_results,
     )
     (elim prefix.devices_are [
-      | inl same ↦ safe-unacknowledged Before left mid prefix.later_inputs prefix.later_results devices
+      | inl same ↦ crash_consistent-unacknowledged Before left mid prefix.later_inputs prefix.later_results devices
           (rw (same, prefix.mid_is) safe) none
-      | inr fails ↦ safe-failed_next Before left mid prefix.later_inputs prefix.later_results devices safe none
+      | inr fails ↦ crash_consistent-failed_next Before left mid prefix.later_inputs prefix.later_results devices safe
+          none
           (rw prefix.mid_is at fails)
     ])
 
 pub prefixes_end_sessions : PrefixesEndSessions
 prefixes_end_sessions base found inputs results answers last left run prefix =
-    record { run = run; safe = safe-prefix (initial_state base found) inputs results left prefix }
+    record { run = run; safe = crash_consistent-after_prefix (initial_state base found) inputs results left prefix }

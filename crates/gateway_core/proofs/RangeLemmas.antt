@@ -1,10 +1,10 @@
 -- The numbers of devices stay in range.
-use Rattle.std.proofs.Common.{◌≡◌, inl, inr, ℕ, ◌<◌, ◌^◌, Bool, List, [], ◌∷◌, ◌++◌, Option, Some, None, Ok, refl, sym}
+use Rattle.std.proofs.lemmas.Grind.{common_steps}
+use Rattle.std.proofs.Common.{◌≡◌, inl, inr, ℕ, ◌<◌, ◌^◌, Bool, List, [], ◌∷◌, ◌++◌, Option, Some, None, Ok, sym}
 use Rattle.std.proofs.Common.{subst, arith, rules}
 use Rattle.std.specs.Prelude.{IfSome, slice_index, ◌⊎◌}
 use Rattle.std.specs.List.{AllByRecursion, AllZip}
 use Rattle.std.specs.Option.{option_map}
-use Rattle.std.specs.FinMap.{get}
 use Rattle.hex.specs.Hex.{decode_of}
 use Rattle.hex.proofs.HexLemmas.{decode_of-ok}
 use Rattle.esp3_frames.specs.Packet.{Packet}
@@ -17,7 +17,7 @@ use Rattle.learned_devices.specs.Devices.{device, learn_update}
 use Rattle.learned_devices.specs.Ranges.{IsProfileInRange, MakerFitsTwoBytes, HasDeviceNumbersInRange, AreInRange}
 use Rattle.learned_devices.proofs.ForCallers.{entered-in}
 use Rattle.teach_in.specs.declared.mode.Mode.{Mode}
-use Rattle.teach_in.specs.declared.mode.Mode.TheVariants.{Closed, LearnAs}
+use Rattle.teach_in.specs.declared.mode.Mode.TheVariants.{LearnAs}
 use Rattle.teach_in.specs.declared.plans.Plan.{Plan}
 use Rattle.teach_in.specs.declared.plans.Plan.TheVariants.{Add}
 use Rattle.teach_in.specs.declared.telegrams.Teach.{Teach as Kind}
@@ -35,13 +35,13 @@ use Rattle.json_lines.specs.Lines.{Teach, TeachLine, text}
 use Rattle.json_lines.proofs.TeachTextsInjective.{one_teach_line}
 use Rattle.gateway_core.specs.Step.{State, Input, Received, Ordered, Effect, update_of, effect, new_mode_of}
 use Rattle.gateway_core.specs.Step.{device_teach_line, mode_set_by_learning, with_update, with_mode}
-use Rattle.gateway_core.specs.Run.{InputResult, Applied, FailedAtCommit, state_after_result}
+use Rattle.gateway_core.specs.Run.{InputResult, Applied, state_after_result}
 use Rattle.gateway_core.specs.Sessions.{initial_state}
 use Rattle.gateway_core.specs.Prefixes.{HasFailedNextUpdate, HasInterruptedUpdate, state_after_run}
 use Rattle.gateway_core.specs.Reporting.{IsDeviceOfDeletedLine, OutcomeMatchesUpdate, accepted_or_deleted_update}
 use Rattle.gateway_core.specs.Ranges.{IsModeInRange, IsStateInRange, PacketBodyIsBytes, StaysInRange}
 use Rattle.gateway_core.specs.Ranges.{SessionsLeaveDevicesInRange, ReportsInRange}
-use Rattle.gateway_core.proofs.ByteLemmas.{AreBytes, field-below, four-below, front-bytes, back-bytes}
+use Rattle.gateway_core.proofs.ByteLemmas.{AreBytes, field-below, four-below, AreBytes-front, AreBytes-back}
 use Rattle.gateway_core.proofs.EffectLemmas.{of_packet, of_line}
 use Rattle.gateway_core.proofs.PrefixLemmas.{sessions_leave_prefixes}
 use Rattle.gateway_core.proofs.ReportingLemmas.{teach_lines_are_true}
@@ -54,8 +54,8 @@ sender-below : (packet : Packet) (t : Telegram) → telegram_of packet ≡ Ok t 
 sender-below packet t carried bytes =
     let is = of_carried packet t carried in
     let id : AreBytes is.id =
-    back-bytes (t.rorg ∷ t.payload) is.id
-    (front-bytes (t.rorg ∷ t.payload ++ is.id) (t.status ∷ []) (subst AreBytes is.body bytes)) in
+    AreBytes-back (t.rorg ∷ t.payload) is.id
+    (AreBytes-front (t.rorg ∷ t.payload ++ is.id) (t.status ∷ []) (subst AreBytes is.body bytes)) in
     let at : (i : ℕ) → i < 4 → slice_index is.id i < 256 = λ i inside. id i 0 (omega (arith, is.four, inside)) in
     subst (λ n. n < 2 ^ 32) (sym is.sender)
     (four-below is.id (at 0 (omega arith)) (at 1 (omega arith)) (at 2 (omega arith)) (at 3 (omega arith)))
@@ -73,20 +73,7 @@ IsRoleInRange (Ute query) = IsProfileInRange query.eep × MakerFitsTwoBytes (Som
 IsRoleInRange kind = Unit {0}
 
 role-in_range : (t : Telegram) → IsRoleInRange (teach_in_of t)
-role-in_range t =
-    let payload = t.payload in
-    of-role IsRoleInRange t tt tt tt tt (
-      (omega arith, omega (arith, field-below payload 0 6), omega (arith, field-below payload 6 7)),
-      omega (arith, field-below payload 13 11),
-    ) (
-      (
-        omega (arith, field-below payload 48 8),
-        omega (arith, field-below payload 40 8),
-        omega
-            (arith, field-below payload 32 8),
-      ),
-      omega (arith, field-below payload 29 3, field-below payload 16 8),
-    )
+role-in_range t = grind (arith, common_steps, field-below, of-role)
 
 own_plan-in_range : (t : Telegram) (known : Bool) (kind : Kind) → IsRoleInRange kind
     → IsPlanInRange (plan_row_of t known kind).by_own_profile
@@ -97,9 +84,7 @@ desk_plan-in_range : (t : Telegram) (known : Bool) (kind : Kind) (eep : Eep) →
 desk_plan-in_range t known kind eep role is = grind arith
 
 plan-in_range : (t : Telegram) (mode : Mode) (known : Bool) → IsModeInRange mode → IsPlanInRange (plan_of t mode known)
-plan-in_range t Closed known is = tt
-plan-in_range t (LearnAs eep) known is = desk_plan-in_range t known (teach_in_of t) eep (role-in_range t) is
-plan-in_range t mode known is = own_plan-in_range t known (teach_in_of t) (role-in_range t)
+plan-in_range t mode known is = grind (arith, common_steps, desk_plan-in_range, own_plan-in_range, role-in_range)
 
 -- ---- an order
 
@@ -107,16 +92,10 @@ byte-in_range : (digits : List ℕ) (byte : ℕ) → decode_of digits ≡ Ok (by
 byte-in_range digits byte is = let ok = decode_of-ok digits (byte ∷ []) is in ok.3 0
 
 profile-in_range : (text : List ℕ) (eep : Eep) → SpellsEep text eep → IsProfileInRange eep
-profile-in_range text eep is = (
-  byte-in_range is.rorg eep.rorg is.is_rorg,
-  byte-in_range is.func eep.func is.is_func,
-  byte-in_range is.typ eep.typ is.is_typ,
-)
+profile-in_range text eep is = grind (arith, common_steps, byte-in_range)
 
 id-in_range : (digits : List ℕ) (id : ℕ) → SpellsId digits id → id < 2 ^ 32
-id-in_range digits id (bytes, four, decoded, is) =
-    let ok = decode_of-ok digits bytes decoded in
-    subst (λ n. n < 2 ^ 32) (sym is) (four-below bytes (ok.3 0) (ok.3 1) (ok.3 2) (ok.3 3))
+id-in_range digits id (bytes, four, decoded, is) = grind (arith, common_steps, decode_of-ok, four-below)
 
 -- the ID or the profile that a word is
 abbrev IsWordInBytes : Word → Type 0
@@ -132,8 +111,7 @@ word-in_range text word is = tt
 words-in_range : (texts : List (List ℕ)) (words : List Word) → AllZip SpellsWord texts words
     → AllByRecursion IsWordInBytes words
 words-in_range [] [] spell = tt
-words-in_range (text ∷ texts) (word ∷ words) spell =
-    (word-in_range text word spell.0, words-in_range texts words spell.1)
+words-in_range (text ∷ texts) (word ∷ words) spell = grind (arith, common_steps, word-in_range, (words-in_range texts))
 words-in_range texts words spell = absurd spell
 
 order-in_range : (line : List ℕ) (order : Order) → order_of line ≡ Ok order
@@ -144,9 +122,7 @@ order-in_range line order is =
 
 set-in_range : (line : List ℕ) (mode : Mode)
     → ((eep : Eep) → mode ≡ LearnAs eep → order_of line ≡ Ok (order.LearnAs eep)) → IsModeInRange mode
-set-in_range line (LearnAs eep) is =
-    let words = order-in_range line (order.LearnAs eep) (is eep refl) in words.1.1.0
-set-in_range line mode is = tt
+set-in_range line mode is = grind (arith, common_steps, order-in_range)
 
 -- ---- the update of an effect
 
@@ -164,9 +140,7 @@ KeepsRange e = IfSome e.update IsChangeInRange × IfSome e.mode IsModeInRange
 added-in_range : (line : List ℕ) (known : Device) → order_of line ≡ Ok (order.Add known.id known.eep)
     → known.maker ≡ None
     → IsChangeInRange (learn_update known)
-added-in_range line known is unknown =
-    let words = order-in_range line (order.Add known.id known.eep) is in
-    (words.1.1.0, words.1.0, subst MakerFitsTwoBytes (sym unknown) tt)
+added-in_range line known is unknown = grind (arith, common_steps, order-in_range)
 
 input-keeps : (state : State) (input : Input) → IsStateInRange state → PacketBodyIsBytes input
     → KeepsRange (effect state input)
@@ -201,15 +175,12 @@ after-in_range sender known operation is old = grind arith
 
 changed-in_range : (devices : Devices) (update : DeviceUpdate) → IsChangeInRange update → AreInRange devices
     → AreInRange (apply_update devices update)
-changed-in_range devices update is old =
-    entered-in devices update.sender (data_after (get devices update.sender) update.operation)
-    (after-in_range update.sender (get devices update.sender) update.operation is (old update.sender)) old
+changed-in_range devices update is old = grind (arith, common_steps, after-in_range, entered-in)
 
 pub with_update-in_range : (devices : Devices) (update : Option DeviceUpdate) → IfSome update IsChangeInRange
     → AreInRange devices
     → AreInRange (with_update devices update)
-with_update-in_range devices None is old = old
-with_update-in_range devices (Some update) is old = changed-in_range devices update is old
+with_update-in_range devices update is old = grind (arith, common_steps, changed-in_range)
 
 with_mode-in_range : (mode : Mode) (set : Option Mode) → IfSome set IsModeInRange → IsModeInRange mode
     → IsModeInRange (with_mode mode set)
@@ -234,35 +205,29 @@ state_after_run-in_range state (input ∷ inputs) (result ∷ results) bytes is 
 state_after_run-in_range state inputs results bytes is = is
 
 pub stays_in_range : StaysInRange
-stays_in_range old new inputs results answers run bytes is =
-    rw (run-last old new inputs results answers run).1 (state_after_run-in_range old inputs results bytes is)
+stays_in_range old new inputs results answers run bytes is = grind (arith, run-last, state_after_run-in_range)
 
 -- ---- what a session leaves
 
 update-in_range : (state : State) (input : Input) → PacketBodyIsBytes input → IsStateInRange state
     → AreInRange (with_update state.devices (update_of state input))
-update-in_range state input bytes is =
-    with_update-in_range state.devices (update_of state input) (input-keeps state input is bytes).0 is.0
+update-in_range state input bytes is = grind (arith, common_steps, input-keeps, with_update-in_range)
 
 failed_next-in_range : (state : State) (inputs : List Input) (results : List InputResult) (devices : Devices)
     → HasFailedNextUpdate state inputs results devices → AllByRecursion PacketBodyIsBytes inputs → IsStateInRange state
     → AreInRange devices
-failed_next-in_range state (input ∷ inputs) (FailedAtCommit cause ∷ results) devices done bytes is =
-    rw done (update-in_range state input bytes.0 is)
-failed_next-in_range state inputs results devices done bytes is = absurd done
+failed_next-in_range state inputs results devices done bytes is = grind (arith, common_steps, update-in_range)
 
 interrupted-in_range : (state : State) (interrupted : Option Input) (devices : Devices)
     → HasInterruptedUpdate state interrupted devices
     → IfSome interrupted PacketBodyIsBytes → IsStateInRange state → AreInRange devices
-interrupted-in_range state (Some input) devices done bytes is = rw done (update-in_range state input bytes is)
-interrupted-in_range state None devices done bytes is = absurd done
+interrupted-in_range state interrupted devices done bytes is = grind (arith, common_steps, update-in_range)
 
 -- the first inputs are of bytes, and the others
 pub bytes-append : (before later : List Input) → AllByRecursion PacketBodyIsBytes (before ++ later)
     → AllByRecursion PacketBodyIsBytes before × AllByRecursion PacketBodyIsBytes later
 bytes-append [] later bytes = (tt, bytes)
-bytes-append (input ∷ before) later bytes =
-    let rest = bytes-append before later bytes.1 in ((bytes.0, rest.0), rest.1)
+bytes-append (input ∷ before) later bytes = grind (arith, common_steps, (bytes-append before))
 
 pub leaves_in_range : SessionsLeaveDevicesInRange
 leaves_in_range session is found bytes interrupted =

@@ -30,10 +30,10 @@ Replies state t outcome bytes =
     (reply : Telegram) × IsReplyTelegram state t outcome reply × (bytes ≡ spelling (radio_packet reply))
 
 -- the bytes of a telegram, if there is one
-telegram-in : (telegram : Option Telegram) (bytes : List ℕ) → radio_bytes_of telegram ≡ Some bytes
+radio_bytes-of_telegram : (telegram : Option Telegram) (bytes : List ℕ) → radio_bytes_of telegram ≡ Some bytes
     → (sent : Telegram) × (telegram ≡ Some sent) × (bytes ≡ spelling (radio_packet sent))
-telegram-in None bytes sends = absurd cc
-telegram-in (Some telegram) bytes sends = (telegram, refl, ap (λ o. unwrap_or o bytes) (sym sends))
+radio_bytes-of_telegram None bytes sends = absurd cc
+radio_bytes-of_telegram (Some telegram) bytes sends = (telegram, refl, ap (λ o. unwrap_or o bytes) (sym sends))
 
 -- a UTE query is answered if it waits for a reply
 wanted : (wants : Bool) (reply : Option Telegram) (bytes : List ℕ)
@@ -41,17 +41,17 @@ wanted : (wants : Bool) (reply : Option Telegram) (bytes : List ℕ)
 wanted true reply bytes sends = (refl, sends)
 wanted false reply bytes sends = absurd cc
 
-reply-is : (state : State) (t : Telegram) (mode : Mode) (kind : Kind) (outcome : Outcome) (bytes : List ℕ)
+replies-if_sent : (state : State) (t : Telegram) (mode : Mode) (kind : Kind) (outcome : Outcome) (bytes : List ℕ)
     → state.mode ≡ mode → teach_in_of t ≡ kind → Hears mode kind
     → radio_bytes_of (reply_telegram_of state.base mode kind outcome) ≡ Some bytes → Replies state t outcome bytes
-reply-is state t mode (Ute query) outcome bytes in_mode is hears sends =
+replies-if_sent state t mode (Ute query) outcome bytes in_mode is hears sends =
     let (wants, replies) = wanted (wants_reply query) (ute_reply query outcome state.base) bytes sends in
-    let (reply, says, spelled) = telegram-in (ute_reply query outcome state.base) bytes replies in
+    let (reply, says, spelled) = radio_bytes-of_telegram (ute_reply query outcome state.base) bytes replies in
     (reply, inr (query, is, wants, rw in_mode hears, says), spelled)
-reply-is state t LearnAnswer (FourByte query) outcome bytes in_mode is hears sends =
-    let (reply, says, spelled) = telegram-in (four_byte_reply query outcome state.base) bytes sends in
+replies-if_sent state t LearnAnswer (FourByte query) outcome bytes in_mode is hears sends =
+    let (reply, says, spelled) = radio_bytes-of_telegram (four_byte_reply query outcome state.base) bytes sends in
     (reply, inl (query, is, in_mode, says), spelled)
-reply-is state t mode kind outcome bytes in_mode is hears sends = absurd cc
+replies-if_sent state t mode kind outcome bytes in_mode is hears sends = absurd cc
 
 -- a packet's effect has only those bytes, and a teach line with the reply's outcome
 abbrev RepliesTo : State → Packet → Effect → List ℕ → Type 0
@@ -65,7 +65,7 @@ packet-replies state packet bytes =
     of_packet (λ e. e.radio ≡ Some bytes → RepliesTo state packet e bytes) state packet (record {
       telegrams = λ t carried.
           let replies = λ (outcome : Outcome).
-          reply-is state t state.mode (teach_in_of t) outcome bytes refl refl in record {
+          replies-if_sent state t state.mode (teach_in_of t) outcome bytes refl refl in record {
             ignores = λ asked disposition is sends. absurd cc;
             reads = λ known line sends. absurd cc;
             learns = λ hears eep maker learned planned sends.

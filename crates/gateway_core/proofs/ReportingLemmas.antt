@@ -27,20 +27,21 @@ use Rattle.gateway_core.proofs.EffectLemmas.{IsRefusal, of_packet, of_line}
 -- ---- teach lines
 
 -- the text of a failure is not that of a teach line
-failure-other : (cause : Cause) (line : TeachLine) → failure_text cause ≡ text (Teach line) → ⊥
-failure-other Memory line says =
+failure_text-no_teach_line : (cause : Cause) (line : TeachLine) → failure_text cause ≡ text (Teach line) → ⊥
+failure_text-no_teach_line Memory line says =
     let found = of_teach_lines (Error (error.Failed out_of_memory) ∷ []) line (append-nil _ ∙ says) in
     absurd (let is = found.1 in cc)
-failure-other Store line says =
+failure_text-no_teach_line Store line says =
     let found = of_teach_lines (Error (error.Failed store_failed) ∷ []) line (append-nil _ ∙ says) in
     absurd (let is = found.1 in cc)
 
 -- what is rejected changes nothing
-refusal-matches : (Gone : Device → Type 0) (e : Effect) (line : TeachLine) (outcome : Outcome) → IsRefusal outcome
+refusal-changes_nothing : (Gone : Device → Type 0) (e : Effect) (line : TeachLine) (outcome : Outcome)
+    → IsRefusal outcome
     → e.update ≡ None → e.mode ≡ None → OutcomeMatchesUpdate Gone e line outcome
-refusal-matches Gone e line Accepted is update mode = absurd is
-refusal-matches Gone e line Deleted is update mode = absurd is
-refusal-matches Gone e line outcome is update mode = (update, mode)
+refusal-changes_nothing Gone e line Accepted is update mode = absurd is
+refusal-changes_nothing Gone e line Deleted is update mode = absurd is
+refusal-changes_nothing Gone e line outcome is update mode = (update, mode)
 
 -- what a line reports, each line with the same text and outcome reports
 same-text-matches : (Gone : Device → Type 0) (e : Effect) (line other : TeachLine) (outcome : Outcome)
@@ -88,7 +89,7 @@ effect-reports state (Received packet) =
         refuses = λ hears need line is. inr (
           line,
           refl,
-          refusal-matches _
+          refusal-changes_nothing _
               (record (teach_report_effect state (teach_in_of t) line) { need = need }) line line.outcome is refl refl,
         );
       };
@@ -121,8 +122,8 @@ teach_lines_are_true state input Applied line says =
                 (sym (ap texts desk ∙ append-nil _) ∙ says) matches),
           )
     ]
-teach_lines_are_true state input (Failed cause) line says = absurd (failure-other cause line says)
-teach_lines_are_true state input (FailedAtCommit cause) line says = absurd (failure-other cause line says)
+teach_lines_are_true state input (Failed cause) line says = absurd (failure_text-no_teach_line cause line says)
+teach_lines_are_true state input (FailedAtCommit cause) line says = absurd (failure_text-no_teach_line cause line says)
 
 pub updates_are_reported : UpdatesAreReported
 updates_are_reported state input update asks =
@@ -171,10 +172,10 @@ label-answers : (id : ℕ) (label : List ℕ) (known : Option Device) → let e 
 label-answers id label None = inr (append-nil _)
 label-answers id label (Some device) = inl (append-nil _)
 
-failure-tenth : (cause : Cause) → (tenth (failure_text cause) ≢ tenth (text Done))
+failure_text-tenth_byte : (cause : Cause) → (tenth (failure_text cause) ≢ tenth (text Done))
     × (tenth (failure_text cause) ≢ tenth (text (Error (error.Order UnknownDevice))))
-failure-tenth Memory = (omega arith, omega arith)
-failure-tenth Store = (omega arith, omega arith)
+failure_text-tenth_byte Memory = (omega arith, omega arith)
+failure_text-tenth_byte Store = (omega arith, omega arith)
 
 pub answers_to_labels_are_true : AnswersToLabelsAreTrue
 answers_to_labels_are_true state line id label spelled = record {
@@ -191,8 +192,8 @@ answers_to_labels_are_true state line id label spelled = record {
         let both = label-done id label (nat_lt max_line (length line)) (device_of state.devices id)
         (rw spelled at says) in
         rw (spelled, update_of) (refl, both.0, both.1)
-    done (Failed cause) says = absurd ((failure-tenth cause).0 (ap tenth says))
-    done (FailedAtCommit cause) says = absurd ((failure-tenth cause).0 (ap tenth says))
+    done (Failed cause) says = absurd ((failure_text-tenth_byte cause).0 (ap tenth says))
+    done (FailedAtCommit cause) says = absurd ((failure_text-tenth_byte cause).0 (ap tenth says))
 
     unknown : (result : InputResult) → (answer_for_result state (Ordered line) result).desk
         ≡ text (Error (error.Order UnknownDevice))
@@ -201,5 +202,5 @@ answers_to_labels_are_true state line id label spelled = record {
         let both = label-unknown id label (nat_lt max_line (length line)) (device_of state.devices id)
         (rw spelled at says) in
         rw (spelled, update_of) (refl, both.0, both.1)
-    unknown (Failed cause) says = absurd ((failure-tenth cause).1 (ap tenth says))
-    unknown (FailedAtCommit cause) says = absurd ((failure-tenth cause).1 (ap tenth says))
+    unknown (Failed cause) says = absurd ((failure_text-tenth_byte cause).1 (ap tenth says))
+    unknown (FailedAtCommit cause) says = absurd ((failure_text-tenth_byte cause).1 (ap tenth says))

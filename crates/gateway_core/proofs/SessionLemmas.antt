@@ -1,4 +1,5 @@
 -- Later sessions find what was acknowledged, and the calls of a gateway are a session.
+use Rattle.std.proofs.lemmas.Grind.{common_steps}
 use Rattle.std.proofs.Common.{◌≡◌, inl, inr, ℕ, true, List, [], ◌∷◌, Option, Some, None, sym, ◌∙◌, arith, nat_cmp}
 use Rattle.std.proofs.Common.{rules, refl}
 use Rattle.std.specs.List.{AllByRecursion}
@@ -18,10 +19,11 @@ use Rattle.gateway_core.specs.CrashStates.{IsCrashConsistent}
 use Rattle.gateway_core.specs.Sessions.{Session, initial_state, with_interrupted, IsSession, AreSessions}
 use Rattle.gateway_core.specs.Sessions.{possible_update, IsNotOverriddenBy, NoneOverrides, InterruptedDoesNotOverride}
 use Rattle.gateway_core.specs.Sessions.{SessionDoesNotOverride, UpdatesSurviveRestarts}
-use Rattle.gateway_core.proofs.EffectLemmas.{of_effect, by_test}
+use Rattle.gateway_core.proofs.EffectLemmas.{of_effect, if-either}
 use Rattle.gateway_core.specs.Prefixes.{state_after_run}
 use Rattle.gateway_core.proofs.RunLemmas.{run-last, state_after_run-append}
-use Rattle.gateway_core.proofs.CrashLemmas.{crash_states-append, safe-weaker, safe-pending, safe-after_run}
+use Rattle.gateway_core.proofs.CrashLemmas.{crash_states-append, crash_consistent-weaker, crash_consistent-with_pending}
+use Rattle.gateway_core.proofs.CrashLemmas.{crash_consistent-after_run}
 use Rattle.std.specs.Option.{option_map}
 use Rattle.learned_devices.specs.DeviceStoreState.{DeviceStoreState}
 use Rattle.gateway_core.specs.SessionCalls.{CallsAreSessions, ClosesEndSessions, CrashesEndSessions}
@@ -35,24 +37,24 @@ get-updated devices update =
 -- ---- guarantees
 
 -- an operation that keeps the guarantee
-promise-kept : (operation other : Operation) (known : Option DeviceData) → IsPromiseKeptBy operation other
+Promises-kept : (operation other : Operation) (known : Option DeviceData) → IsPromiseKeptBy operation other
     → Promises operation known
     → Promises operation (data_after known other)
-promise-kept operation other known keeps promised = grind arith
+Promises-kept operation other known keeps promised = grind arith
 
 -- an update that keeps the guarantee, or is of another sender
-get-agreeing : (devices : Devices) (kept update : DeviceUpdate) → IsNotOverriddenBy kept (Some update)
+Promises-after_update : (devices : Devices) (kept update : DeviceUpdate) → IsNotOverriddenBy kept (Some update)
     → Promises kept.operation (get devices kept.sender)
     → Promises kept.operation (get (apply_update devices update) kept.sender)
-get-agreeing devices kept update spared promised =
+Promises-after_update devices kept update spared promised =
     let after = data_after (get devices update.sender) update.operation in
     rw (get-entered devices update.sender after kept.sender)
-    (by_test (Promises kept.operation) (eq_by_cmp nat_cmp kept.sender update.sender) _ _
+    (if-either (Promises kept.operation) (eq_by_cmp nat_cmp kept.sender update.sender) _ _
     (λ is_same.
     let same : kept.sender ≡ update.sender = grind (arith, nat_tests) in
     elim spared [
       | inl apart ↦ absurd (apart (sym same))
-      | inr keeps ↦ promise-kept kept.operation update.operation (get devices update.sender) keeps
+      | inr keeps ↦ Promises-kept kept.operation update.operation (get devices update.sender) keeps
           (rw same at promised)
     ]) (λ is_other. promised))
 
@@ -82,33 +84,26 @@ module _ (Before : Devices → Type 0) (kept : DeviceUpdate) where
     pub now : Promises kept.operation (get devices kept.sender)
     pub safe : (d : Devices) → IsCrashConsistent Before left d → Promises kept.operation (get d kept.sender)
 
-  committed-kept : (left : CrashStates) (devices : Devices) (update : DeviceUpdate)
+  IsKept-of_commit : (left : CrashStates) (devices : Devices) (update : DeviceUpdate)
       → Promises kept.operation (get (apply_update devices update) kept.sender)
       → IsKept (after_committed_update left devices (Some update)) (apply_update devices update)
-  committed-kept left devices update promised = record {
-    now = promised;
-    safe = λ d safe. elim safe [
-      | inl (inl is) ↦ rw is promised
-      | inl (inr never) ↦ absurd never
-      | inr (none, before) ↦ absurd cc
-    ];
-  }
+  IsKept-of_commit left devices update promised = grind (arith, common_steps)
 
-  after_committed : (left : CrashStates) (devices : Devices) (update : Option DeviceUpdate)
+  IsKept-after_commit : (left : CrashStates) (devices : Devices) (update : Option DeviceUpdate)
       → IsNotOverriddenBy kept update → IsKept left devices
       → IsKept (after_committed_update left devices update) (with_update devices update)
-  after_committed left devices None spared all = all
-  after_committed left devices (Some update) spared all =
-      committed-kept left devices update (get-agreeing devices kept update spared all.now)
+  IsKept-after_commit left devices None spared all = all
+  IsKept-after_commit left devices (Some update) spared all =
+      IsKept-of_commit left devices update (Promises-after_update devices kept update spared all.now)
 
-  after_pending : (left : CrashStates) (devices : Devices) (update : Option DeviceUpdate)
+  IsKept-with_pending : (left : CrashStates) (devices : Devices) (update : Option DeviceUpdate)
       → IsNotOverriddenBy kept update → IsKept left devices
       → IsKept (with_pending_update left devices update) devices
-  after_pending left devices None spared all = all
-  after_pending left devices (Some update) spared all = record {
+  IsKept-with_pending left devices None spared all = all
+  IsKept-with_pending left devices (Some update) spared all = record {
     now = all.now;
     safe = λ d safe. elim safe [
-      | inl (inl is) ↦ rw is (get-agreeing devices kept update spared all.now)
+      | inl (inl is) ↦ rw is (Promises-after_update devices kept update spared all.now)
       | inl (inr more) ↦ all.safe d (inl more)
       | inr before ↦ all.safe d (inr before)
     ];
@@ -119,10 +114,10 @@ module _ (Before : Devices → Type 0) (kept : DeviceUpdate) where
       → IsKept left state.devices → IsKept (crash_states_after_result left state input result)
       (state_after_result state input result).devices
   after_result left state input Applied spared all =
-      after_committed left state.devices (update_of state input) spared all
+      IsKept-after_commit left state.devices (update_of state input) spared all
   after_result left state input (Failed cause) spared all = all
   after_result left state input (FailedAtCommit cause) spared all =
-      after_pending left state.devices (update_of state input) spared all
+      IsKept-with_pending left state.devices (update_of state input) spared all
 
   after_run : (left : CrashStates) (state : State) (inputs : List Input) (results : List InputResult)
       → NoneOverrides kept state inputs results → IsKept left state.devices
@@ -139,12 +134,13 @@ module _ (Before : Devices → Type 0) (kept : DeviceUpdate) where
       → Promises kept.operation (get d kept.sender)
   after_crash left state None spared all = all.safe
   after_crash left state (Some input) spared all =
-      (after_pending left state.devices (update_of state input) spared all).safe
+      (IsKept-with_pending left state.devices (update_of state input) spared all).safe
 
 -- a session that finds the guarantee, and does not override it, leaves it
-session-keeps : (kept : DeviceUpdate) (session : Session) → IsSession session → SessionDoesNotOverride kept session
+session-keeps_promise : (kept : DeviceUpdate) (session : Session) → IsSession session
+    → SessionDoesNotOverride kept session
     → Promises kept.operation (get session.found kept.sender) → Promises kept.operation (get session.left kept.sender)
-session-keeps kept session is spared found =
+session-keeps_promise kept session is spared found =
     let Before = λ (devices : Devices). devices ≡ session.found in
     let start = initial_state session.base session.found in
     let ends = (run-last start session.last session.inputs session.results session.answers is.run).1 in
@@ -157,13 +153,13 @@ session-keeps kept session is spared found =
     (rw ends (after_run Before kept nothing_committed_yet start session.inputs session.results spared.0 first))
     session.left is.safe
 
-sessions-keep : (kept : DeviceUpdate) (found : Devices) (sessions : List Session) (last : Devices)
+sessions-keep_promise : (kept : DeviceUpdate) (found : Devices) (sessions : List Session) (last : Devices)
     → AreSessions found sessions last → AllByRecursion (SessionDoesNotOverride kept) sessions
     → Promises kept.operation (get found kept.sender) → Promises kept.operation (get last kept.sender)
-sessions-keep kept found [] last are spared promised = rw are promised
-sessions-keep kept found (session ∷ sessions) last are spared promised =
-    sessions-keep kept session.left sessions last are.2 spared.1
-    (session-keeps kept session are.1 spared.0 (rw are.0 promised))
+sessions-keep_promise kept found [] last are spared promised = rw are promised
+sessions-keep_promise kept found (session ∷ sessions) last are spared promised =
+    sessions-keep_promise kept session.left sessions last are.2 spared.1
+    (session-keeps_promise kept session are.1 spared.0 (rw are.0 promised))
 
 pub updates_survive_restarts : UpdatesSurviveRestarts
 updates_survive_restarts session update sessions last is acknowledged spared are =
@@ -178,7 +174,7 @@ updates_survive_restarts session update sessions last is acknowledged spared are
     let promised = input-promises before input update acknowledged.asks_for_update in
     let committed : IsKept Before update (crash_states_after_result early before input Applied)
     (state_after_applied_input before input).devices =
-    rw acknowledged.asks_for_update (committed-kept Before update early before.devices update
+    rw acknowledged.asks_for_update (IsKept-of_commit Before update early before.devices update
     (rw (get-updated before.devices update) promised)) in
     let all = after_run Before update (crash_states_after_result early before input Applied)
     (state_after_applied_input before input) acknowledged.later_inputs acknowledged.later_results
@@ -194,7 +190,7 @@ updates_survive_restarts session update sessions last is acknowledged spared are
     ends ∙ rw (acknowledged.inputs_are, acknowledged.results_are, early_ends.1)
     (state_after_run-append start acknowledged.earlier_inputs (input ∷ acknowledged.later_inputs)
     acknowledged.earlier_results (Applied ∷ acknowledged.later_results) early_ends.0) in
-    sessions-keep update session.left sessions last are spared
+    sessions-keep_promise update session.left sessions last are spared
     (after_crash Before update (crash_states nothing_committed_yet start session.inputs session.results) session.last
     session.interrupted_input acknowledged.crash (rw (states, last_state) all) session.left is.safe)
 
@@ -209,7 +205,7 @@ module _ {S : Type 0} (stored : S → DeviceStoreState) where
         last = handled.last;
         is = record {
           run = handled.run;
-          safe = safe-weaker (stored old.registry).may_recover (λ d. d ≡ found) begins.crash _ left
+          safe = crash_consistent-weaker (stored old.registry).may_recover (λ d. d ≡ found) begins.crash _ left
               (handled.crash left may);
         };
       }
@@ -225,8 +221,10 @@ module _ {S : Type 0} (stored : S → DeviceStoreState) where
       (update_of handled.last input))
       left =
       elim (tries handled.last.devices handled.at.2 left may) [
-        | inl before ↦ safe-pending Before states handled.last.devices (update_of handled.last input) left
-            (safe-weaker (stored old.registry).may_recover Before begins.crash states left (handled.crash left before))
+        | inl before ↦ crash_consistent-with_pending Before states handled.last.devices (update_of handled.last input)
+            left
+            (crash_consistent-weaker (stored old.registry).may_recover Before begins.crash states left
+            (handled.crash left before))
         | inr made ↦ rw (asks handled.last handled.at) (inl (inl made))
       ] in
       record { results = handled.results; last = handled.last; is = record { run = handled.run; safe = safe } }
@@ -244,7 +242,8 @@ module _ {S : Type 0} (stored : S → DeviceStoreState) where
             is = record {
               run = handled.run;
               safe = rw (run-last start handled.last inputs handled.results answers handled.run).1
-                  (safe-after_run (λ devices. devices ≡ found) nothing_committed_yet start inputs handled.results
+                  (crash_consistent-after_run (λ devices. devices ≡ found) nothing_committed_yet start inputs
+                  handled.results
                   (inr (refl, refl)));
             };
           };

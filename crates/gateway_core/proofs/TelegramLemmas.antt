@@ -18,17 +18,17 @@ use Rattle.std.proofs.lemmas.Bool.Decides.{nat_tests}
 
 -- the outcomes that a reply to the sender can have
 
-can-be_learned : (t : Telegram) (kind : Teach) → teach_in_of t ≡ kind
+learned-has_reply_code : (t : Telegram) (kind : Teach) → teach_in_of t ≡ kind
     → HasReplyCodeIfQuery kind t.sender Accepted × HasReplyCodeIfQuery kind t.sender Full
-can-be_learned t kind is = grind (arith, query-sender, ute-sender)
+learned-has_reply_code t kind is = grind (arith, query-sender, ute-sender)
 
-can-be_forgotten : (t : Telegram) (kind : Teach) → teach_in_of t ≡ kind → AsksDeletion kind
+deleted-has_reply_code : (t : Telegram) (kind : Teach) → teach_in_of t ≡ kind → AsksDeletion kind
     → HasReplyCodeIfQuery kind t.sender Deleted
-can-be_forgotten t kind is asks = grind (arith, ute-sender)
+deleted-has_reply_code t kind is asks = grind (arith, ute-sender)
 
-can-be_refused : (t : Telegram) (kind : Teach) (outcome : Outcome) → teach_in_of t ≡ kind → Refuses kind outcome
+refused-has_reply_code : (t : Telegram) (kind : Teach) (outcome : Outcome) → teach_in_of t ≡ kind → Refuses kind outcome
     → HasReplyCodeIfQuery kind t.sender outcome
-can-be_refused t kind outcome is refuses = grind (arith, query-sender, ute-sender)
+refused-has_reply_code t kind outcome is refuses = grind (arith, query-sender, ute-sender)
 
 -- the outcomes of a plan can be replied
 abbrev pub CanReply : Teach → ℕ → Plan → Type 0
@@ -42,9 +42,9 @@ planned t mode known =
     let kind = teach_in_of t in
     of_plan (CanReply kind t.sender) t mode known (record {
       silent = tt;
-      adds = λ hears eep maker. can-be_learned t kind refl;
-      forgets = λ learning asks. can-be_forgotten t kind refl asks;
-      refuses = λ hears outcome is. can-be_refused t kind outcome refl is;
+      adds = λ hears eep maker. learned-has_reply_code t kind refl;
+      forgets = λ learning asks. deleted-has_reply_code t kind refl asks;
+      refuses = λ hears outcome is. refused-has_reply_code t kind outcome refl is;
     })
 
 -- for the plan that was found
@@ -55,5 +55,5 @@ can_reply t mode kind plan is planned_so = rw (is, sym planned_so) (planned t mo
 -- ---- data: the role in teach-in determines the LRN bit
 
 -- a telegram that is plain data passes the test of its LRN bit
-pub plain-is-data : (t : Telegram) → teach_in_of t ≡ Plain → is_data t.rorg t.payload ≡ true
-plain-is-data t plain = grind (arith, nat_tests, field-below)
+pub plain-is_data : (t : Telegram) → teach_in_of t ≡ Plain → is_data t.rorg t.payload ≡ true
+plain-is_data t plain = grind (arith, nat_tests, field-below)

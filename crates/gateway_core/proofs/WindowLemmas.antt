@@ -9,13 +9,13 @@ use Rattle.gateway_core.specs.Step.{Effect, packet_effect, mode_set_by_learning}
 use Rattle.gateway_core.specs.Windows.{LearnsSender, ForgetsSender, PacketsLearnOnlyInWindows}
 use Rattle.gateway_core.proofs.EffectLemmas.{of_packet}
 
-pub open-not-closed : (mode : Mode) → IsOpen mode → mode ≢ Closed
-open-not-closed mode is_open closed = rw closed at is_open
+pub IsOpen-not_closed : (mode : Mode) → IsOpen mode → mode ≢ Closed
+IsOpen-not_closed mode is_open closed = rw closed at is_open
 
 -- only the mode for one sender is closed
-closes-one : (now mode : Mode) → mode_set_by_learning now ≡ Some mode → (eep : Eep) × (now ≡ LearnAs eep)
-closes-one (LearnAs eep) mode set = (eep, refl)
-closes-one now mode set = absurd cc
+closing_mode-is_for_one : (now mode : Mode) → mode_set_by_learning now ≡ Some mode → (eep : Eep) × (now ≡ LearnAs eep)
+closing_mode-is_for_one (LearnAs eep) mode set = (eep, refl)
+closing_mode-is_for_one now mode set = absurd cc
 
 pub packets_learn_only_in_windows : PacketsLearnOnlyInWindows
 packets_learn_only_in_windows state packet =
@@ -33,10 +33,10 @@ packets_learn_only_in_windows state packet =
               device = record { id = t.sender; eep = eep; maker = maker; label = [] };
               is_sender = refl;
               update = ap (λ (e : Effect). e.update) is;
-              window_open = open-not-closed state.mode (hears-open state.mode (teach_in_of t) hears);
+              window_open = IsOpen-not_closed state.mode (hears-open state.mode (teach_in_of t) hears);
               ute_needs_window_for_all = λ query asked. rw asked at hears;
               closes = λ eep mode. closes ∙ ap mode_set_by_learning mode;
-              stays = λ mode set. closes-one state.mode mode (sym closes ∙ set);
+              stays = λ mode set. closing_mode-is_for_one state.mode mode (sym closes ∙ set);
             });
         forgets = λ learning (query, asked, deletes) is. inr (inl (record {
           telegram = t;

@@ -3,7 +3,8 @@ use Rattle.std.proofs.Common.{◌≡◌, ℕ, List, [], ◌∷◌, ◌++◌, ref
 use Rattle.gateway_core.specs.Events.{InputEvent, Chunk, Line, bytes_between, inputs_of, prepend_to_first}
 use Rattle.gateway_core.proofs.ForCallers.{cuts_do_not_matter}
 
-prepend_to_first-nothing : (events : List InputEvent) → prepend_to_first [] (bytes_between events) ≡ bytes_between events
+prepend_to_first-nothing : (events : List InputEvent)
+    → prepend_to_first [] (bytes_between events) ≡ bytes_between events
 prepend_to_first-nothing [] = refl
 prepend_to_first-nothing (Line line ∷ events) = refl
 prepend_to_first-nothing (Chunk bytes ∷ events) = nothing (bytes_between events)

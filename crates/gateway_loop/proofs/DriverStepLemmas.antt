@@ -1,6 +1,7 @@
 -- How packets, chunks and orders are taken.
-use Rattle.std.proofs.Common.{◌≡◌, ℕ, ◌^◌, ◌<◌, List, [], ◌∷◌, ◌++◌, length, refl, ap, sym, subst, ◌∙◌}
-use Rattle.std.proofs.Common.{append_assoc, append-nil, arith, length-append, map, Some}
+use Rattle.std.proofs.lemmas.Grind.{common_steps}
+use Rattle.std.proofs.Common.{◌≡◌, ℕ, ◌^◌, ◌<◌, List, [], ◌∷◌, ◌++◌, length, refl, ap, sym, subst, ◌∙◌, append_assoc}
+use Rattle.std.proofs.Common.{append-nil, arith, length-append, map, Some}
 use Rattle.std.proofs.lemmas.List.{map-append, length-map}
 use Rattle.learned_devices.specs.DeviceStoreState.{DeviceStoreState}
 use Rattle.esp3_frames.specs.Packet.{Packet}
@@ -11,15 +12,15 @@ use Rattle.gateway_core.specs.Step.{Input, Received, Ordered, Answer}
 use Rattle.gateway_core.specs.Handling.{HandlerValue}
 use Rattle.gateway_core.specs.Calls.{GatewayValue, Transition, Next, Bytes, Order}
 use Rattle.gateway_core.specs.Events.{InputEvent, Chunk, Line, inputs_of}
-use Rattle.gateway_core.proofs.ForCallers.{new_packets-rest, rest_goes_on, items_behind, rest_behind, count_on}
+use Rattle.gateway_core.proofs.ForCallers.{new_packets-rest, rest_of-may_become_packet, inputs_of-more_events}
+use Rattle.gateway_core.proofs.ForCallers.{rest_of-more_events, saturated_sum-twice}
 use Rattle.gateway_state.specs.Counts.{saturated_sum}
 use Rattle.gateway_loop.specs.OutputSpecs.{OutputSpec}
 use Rattle.gateway_loop.specs.declared.driver.Driver.{Driver}
 use Rattle.gateway_loop.specs.Processing.{HasNoReadyPacket, IsWholeOrChunkPrefix, AnswersInputs, LastAnswerCutShort}
 use Rattle.gateway_loop.specs.private.DriverSteps.{Drains, DrainsPart, DriverBreaks, Takes}
 use Rattle.gateway_loop.proofs.ChunkLemmas.{inputs_of-parts}
-use Rattle.gateway_loop.proofs.ProcessingLemmas.{answers-nothing, answers-append, answers-cut_short}
-use Rattle.gateway_loop.proofs.ProcessingLemmas.{processes-append}
+use Rattle.gateway_loop.proofs.ProcessingLemmas.{answers-nothing, answers-append, answers-cut_short, processes-append}
 
 -- the packets that a chunk completes after a rest
 inputs_of-chunk : (rest bytes : List ℕ) {ready : List Packet} → MayBecomePacket rest
@@ -32,8 +33,7 @@ inputs_of-chunk rest bytes live is =
 -- a prefix of a chunk is a chunk
 begun-chunk : (chunk : List ℕ) (begun : InputEvent) → IsWholeOrChunkPrefix (Chunk chunk) begun
     → (run : List ℕ) × (begun ≡ Chunk run) × (later : List ℕ) × (chunk ≡ run ++ later)
-begun-chunk chunk (Chunk run) (later, is) = (run, refl, later, is)
-begun-chunk chunk (Line line) begins = absurd begins
+begun-chunk chunk begun begins = grind (arith, common_steps)
 
 module _ {S : Type 0} {stored : S → DeviceStoreState} {O : Type 0} (output : OutputSpec O) where
   -- ---- the ready packets
@@ -61,7 +61,7 @@ module _ {S : Type 0} {stored : S → DeviceStoreState} {O : Type 0} (output : O
         (answers-append output before between after drained.answered
         (record { answers = answer ∷ []; handled = handled; out = out }));
     counted = rw (length-append drained.packets (packet ∷ []))
-        (count_on _ _ _ (length drained.packets) 1 drained.counted counted);
+        (saturated_sum-twice _ _ _ (length drained.packets) 1 drained.counted counted);
   }
 
   -- and its answer is not written completely
@@ -99,7 +99,7 @@ module _ {S : Type 0} {stored : S → DeviceStoreState} {O : Type 0} (output : O
               AnswersInputs stored start handler (map Received drained.packets)
               (output.puts old.reply_sink new.reply_sink)) moved.1 drained.answered);
           rest = rw append-nil rest_is;
-          idle = record { ready = none; rest = rw rest_is (rest_goes_on (rest ++ run)) };
+          idle = record { ready = none; rest = rw rest_is (rest_of-may_become_packet (rest ++ run)) };
         };
         counted = rw (all, length-map) drained.counted;
       }
@@ -128,8 +128,13 @@ module _ {S : Type 0} {stored : S → DeviceStoreState} {O : Type 0} (output : O
           idle = joined.idle;
         };
         counted =
-            rw (parts, items_behind rest after (Chunk bytes ∷ []) (Chunk run ∷ []) first.processed.rest, length-append)
-            (count_on old.items mid.items new.items _ (length (inputs_of after (Chunk run ∷ []))) first.counted
+            rw (
+              parts,
+              inputs_of-more_events rest after (Chunk bytes ∷ []) (Chunk run ∷ []) first.processed.rest,
+              length-append,
+            )
+            (saturated_sum-twice old.items mid.items new.items _ (length (inputs_of after (Chunk run ∷ [])))
+            first.counted
             second.counted);
       }
 
@@ -181,11 +186,11 @@ module _ {S : Type 0} {stored : S → DeviceStoreState} {O : Type 0} (output : O
               length-append inputs broken.inputs,
             );
         ready_packets_are = inputs_of-parts rest bytes run []
-            ∙ items_behind rest after (Chunk bytes ∷ []) (Chunk run ∷ []) first.processed.rest
+            ∙ inputs_of-more_events rest after (Chunk bytes ∷ []) (Chunk run ∷ []) first.processed.rest
             ∙ ap (λ (is : List Input). inputs ++ is) (rw is_run at broken.ready_packets_are)
             ∙ sym (append_assoc inputs broken.inputs (map Received new.gateway.now.ready));
         rest = rw is_run at broken.rest
-            ∙ rest_behind rest after (Chunk bytes ∷ []) (Chunk run ∷ []) first.processed.rest
+            ∙ rest_of-more_events rest after (Chunk bytes ∷ []) (Chunk run ∷ []) first.processed.rest
             ∙ ap (λ b. rest_of (rest ++ b)) (sym (append_assoc bytes run []));
         answered = answers-cut_short output old.reply_sink mid.reply_sink new.reply_sink first.processed.answered
             broken.answered;

@@ -1,7 +1,8 @@
 -- The postconditions of `replay` and `live` at each of their ends.
+use Rattle.std.proofs.lemmas.Grind.{common_steps}
 use Rattle.std.proofs.Common.{◌≡◌, ℕ, ◌+◌, ◌<◌, ◌≤◌, List, [], ◌∷◌, ◌++◌, Bool, length, map, ap, refl, ◌∙◌, inl, inr}
-use Rattle.std.proofs.Common.{Option, None, Some, Result, Ok, Err, arith, length-append, sym, subst}
-use Rattle.std.specs.Prelude.{IfErr, IfOk, IsSome, All}
+use Rattle.std.proofs.Common.{Option, None, Some, Result, Ok, Err, arith}
+use Rattle.std.specs.Prelude.{IfErr, IfOk, IsSome}
 use Rattle.std.proofs.lemmas.List.{length-map, map-append, append_cancel_left}
 use Rattle.std.proofs.lemmas.List.Elements.{All-map, All-head, All-tail}
 use Rattle.learned_devices.specs.DeviceStoreState.{DeviceStoreState}
@@ -15,9 +16,9 @@ use Rattle.gateway_loop.specs.declared.run_result.RunFault.{RunFault}
 use Rattle.gateway_loop.specs.declared.run_result.RunFault.TheVariants.{Read, Write, TooManyTurns}
 use Rattle.gateway_loop.specs.declared.run_result.Summary.{Summary}
 use Rattle.gateway_loop.specs.Headline.{ReplaysAsSpecified, ServesAsSpecified}
-use Rattle.gateway_loop.specs.LiveGateway.{AllSucceeded, BreaksTurn, LiveValue, NextReadFails, Serves}
-use Rattle.gateway_loop.specs.LiveGateway.{ServesUntilFault, ServesUntilReadFails, ServesUntilWriteFails}
-use Rattle.gateway_loop.specs.LiveGateway.{SucceedsIffAllTurns, live_value, serial_reads_and_chunk}
+use Rattle.gateway_loop.specs.LiveGateway.{AllSucceeded, BreaksTurn, LiveValue, NextReadFails, Serves, ServesUntilFault}
+use Rattle.gateway_loop.specs.LiveGateway.{ServesUntilReadFails, ServesUntilWriteFails, SucceedsIffAllTurns, live_value}
+use Rattle.gateway_loop.specs.LiveGateway.{serial_reads_and_chunk}
 use Rattle.gateway_loop.specs.LiveOutputs.{live_output}
 use Rattle.gateway_loop.specs.Reads.{AllReadsSucceed, LastReadFails, MakesReads}
 use Rattle.gateway_loop.specs.ScriptReplay.{FailsIffTooManyTurns, ReplayValue, Replays, ReplaysEndedLines}
@@ -34,16 +35,10 @@ use Rattle.byte_io.specs.Writes.{WritesPart, WritesText}
 pub last_not_each : (is : Transfer → Type 0) (old new transfers : List Transfer) (last : Transfer)
     → new ≡ old ++ (transfers ++ last ∷ []) → (is last → ⊥) → EachIs is old new → ⊥
 last_not_each is old new transfers last made not each =
-    not (at_last transfers
-    (subst (All is) (append_cancel_left old each.transfers (transfers ++ last ∷ []) (sym each.made ∙ made)) each.each))
-  where
-    at_last : (earlier : List Transfer) → All is (earlier ++ last ∷ []) → is last
-    at_last [] all = All-head is last [] all
-    at_last (first ∷ earlier) all = at_last earlier (All-tail is first (earlier ++ last ∷ []) all)
+    grind (arith, common_steps, All-head, All-tail, append_cancel_left)
 
 moves_not_nothing : (transfer : Transfer) → MovesNothing transfer → MovesBytes transfer → ⊥
-moves_not_nothing None nothing some = some
-moves_not_nothing (Some bytes) nothing some = some nothing
+moves_not_nothing transfer nothing some = grind (arith, common_steps)
 
 pub part_not_each : {old new : SinkValue} {front text : List ℕ} → WritesPart old new front text
     → EachIs MovesBytes old.writes new.writes → ⊥
@@ -149,9 +144,9 @@ each_succeeds {reads = reads} succeeded = record {
   each = All-map IsSome Some reads (λ k d below. refl);
 }
 
-length-serial_reads_push : (read : List Turn) (chunk : List ℕ) → length (serial_reads read ++ chunk ∷ []) ≡ length read + 1
-length-serial_reads_push read chunk =
-    length-append (serial_reads read) (chunk ∷ []) ∙ ap (λ n. n + 1) (length-serial_reads read)
+length-serial_reads_push : (read : List Turn) (chunk : List ℕ)
+    → length (serial_reads read ++ chunk ∷ []) ≡ length read + 1
+length-serial_reads_push read chunk = grind (arith, common_steps)
 
 module _ {S P Q R D : Type 0} (state : S → DeviceStoreState) (serial_in : sources.Ghosts P) (desk_in : sources.Ghosts Q)
     (serial_out : sinks.Ghosts R) (desk_out : sinks.Ghosts D) (explains : Bool)

@@ -1,6 +1,7 @@
 -- `replay` and `live` do what the headline specifies, for a new gateway.
-use Rattle.std.proofs.Common.{◌≡◌, ◌⊎◌, ◌+◌, inl, inr, ℕ, Bool, List, [], ◌∷◌, ◌++◌, length, map, Option, Some, None}
-use Rattle.std.proofs.Common.{Ok, Err, append-nil, append_assoc, refl, sym, ap, subst, ◌∙◌, length-append}
+use Rattle.std.proofs.lemmas.Grind.{common_steps}
+use Rattle.std.proofs.Common.{arith, ◌≡◌, ◌⊎◌, ◌+◌, inl, inr, ℕ, Bool, List, [], ◌∷◌, ◌++◌, length, map, Option, Some}
+use Rattle.std.proofs.Common.{None, Ok, Err, append-nil, append_assoc, refl, sym, ap, subst, ◌∙◌}
 use Rattle.std.specs.List.{concat, flat_map}
 use Rattle.std.proofs.lemmas.List.Concat.{flat_map-append}
 use Rattle.learned_devices.specs.DeviceStoreState.{DeviceStoreState}
@@ -11,7 +12,7 @@ use Rattle.gateway_core.specs.Sessions.{Session, initial_state}
 use Rattle.gateway_core.specs.Handling.{HandlerValue, Handles, HasState}
 use Rattle.gateway_core.specs.Calls.{GatewayValue}
 use Rattle.gateway_core.specs.Events.{InputEvent, Chunk, Line, bytes_in, inputs_of}
-use Rattle.gateway_core.proofs.ForCallers.{inputs_of-append, sessions_leave_prefixes, safe-weaker}
+use Rattle.gateway_core.proofs.ForCallers.{inputs_of-append, sessions_leave_prefixes, crash_consistent-weaker}
 use Rattle.byte_io.specs.Streams.{SourceValue, sink_value, source_value}
 use Rattle.byte_io.specs.Writes.{Adds, WritesPart}
 use Rattle.byte_io.specs.declared.sink.Sink as sinks
@@ -19,15 +20,14 @@ use Rattle.byte_io.specs.declared.source.Source as sources
 use Rattle.gateway_loop.specs.declared.run_result.RunFault.{RunFault}
 use Rattle.gateway_loop.specs.declared.run_result.RunFault.TheVariants.{Read, Write, TooManyTurns}
 use Rattle.gateway_loop.specs.declared.run_result.Summary.{Summary}
-use Rattle.gateway_loop.specs.Headline.{AreWholeLines, AsSpecified, BrokenOff, IsNew, IsPrefix}
-use Rattle.gateway_loop.specs.Headline.{ReplaysAsSpecified, ServesAsSpecified, all_desk_text, all_radio_bytes}
+use Rattle.gateway_loop.specs.Headline.{AreWholeLines, AsSpecified, BrokenOff, IsNew, IsPrefix, ReplaysAsSpecified}
+use Rattle.gateway_loop.specs.Headline.{ServesAsSpecified, all_desk_text, all_radio_bytes}
 use Rattle.gateway_loop.specs.LiveGateway.{BreaksTurn, Serves, ServesUntilFault, ServesUntilReadFails}
 use Rattle.gateway_loop.specs.LiveGateway.{ServesUntilWriteFails, LiveValue, NextReadFails, events_and_chunk}
 use Rattle.gateway_loop.specs.LiveGateway.{live_value, serial_reads_and_chunk}
 use Rattle.gateway_loop.specs.Processing.{Breaks, IsWholeOrChunkPrefix}
 use Rattle.gateway_loop.specs.Script.{script, with_lf}
-use Rattle.gateway_loop.specs.ScriptReplay.{Replays, ReplaysEndedLines, ReplaysUntilFault}
-use Rattle.gateway_loop.specs.ScriptReplay.{replay_value}
+use Rattle.gateway_loop.specs.ScriptReplay.{Replays, ReplaysEndedLines, ReplaysUntilFault, replay_value}
 use Rattle.gateway_loop.specs.Reads.{AllReadsSucceed, OnlyLastMayFail}
 use Rattle.gateway_loop.specs.Turns.{Turn, desk_reads, events_of_turns, serial_reads, turns_of}
 use Rattle.gateway_loop.specs.LiveOutputs.{radio_bytes, live_output}
@@ -44,12 +44,7 @@ IsPrefix-whole bytes = record { rest = []; whole = sym (append-nil bytes) }
 IsPrefix-cut_short : (says : Answer → List ℕ) (answers : List Answer) (last : Answer) (part missing : List ℕ)
     → says last ≡ part ++ missing
     → IsPrefix (flat_map says answers ++ part) (flat_map says (answers ++ last ∷ []))
-IsPrefix-cut_short says answers last part missing whole = record {
-  rest = missing;
-  whole = flat_map-append says answers (last ∷ [])
-      ∙ ap (λ text. flat_map says answers ++ text) (append-nil (says last) ∙ whole)
-      ∙ sym (append_assoc (flat_map says answers) part missing);
-}
+IsPrefix-cut_short says answers last part missing whole = grind (arith, common_steps)
 
 -- ---- turns
 
@@ -73,9 +68,7 @@ reads_alternate : (read : List Turn) (chunk : Option (List ℕ))
     → (length (serial_reads_and_chunk read chunk) ≡ length (desk_reads read))
     ⊎ (length (serial_reads_and_chunk read chunk) ≡ length (desk_reads read) + 1)
 reads_alternate read None = inl (length-serial_reads read ∙ sym (length-desk_reads read))
-reads_alternate read (Some chunk) =
-    inr (length-append (serial_reads read) (chunk ∷ [])
-    ∙ ap (λ n. n + 1) (length-serial_reads read ∙ sym (length-desk_reads read)))
+reads_alternate read (Some chunk) = grind (arith, common_steps)
 
 -- ---- inputs
 
@@ -117,12 +110,7 @@ module _ {S : Type 0} {state : S → DeviceStoreState} where
 
   module _ {base : ℕ} {found : Devices} {old : GatewayValue S} (began : IsNew state base found old) where
     begins_at : HasState state old.handler (initial_state base found)
-    begins_at = (
-      ap (λ (gateway : GatewayValue S). gateway.handler.base) began.value,
-      ap (λ (gateway : GatewayValue S). gateway.handler.mode) began.value,
-      began.holds_found,
-      ap (λ (gateway : GatewayValue S). gateway.handler.counts) began.value,
-    )
+    begins_at = grind (arith, common_steps)
 
     specified : {new : HandlerValue S} {inputs : List Input} {answers : List Answer} (out : List Answer → Type 0)
         → (state new.registry).honest → Handles state old.handler inputs answers new → out answers
@@ -150,7 +138,7 @@ module _ {S : Type 0} {state : S → DeviceStoreState} where
               } in
               let safe : IsCrashConsistent (λ devices. devices ≡ found)
               (crash_states nothing_committed_yet (initial_state base found) inputs ran.results) left =
-              safe-weaker (state old.handler.registry).may_recover (λ devices. devices ≡ found)
+              crash_consistent-weaker (state old.handler.registry).may_recover (λ devices. devices ≡ found)
               began.crash_leaves_found _ left (ran.crash left may_recover) in
               elim (sessions_leave_prefixes session (record { run = ran.run; safe = safe })) [
                 | inl is ↦ is
@@ -325,14 +313,7 @@ module _ {S P Q R D : Type 0} (state : S → DeviceStoreState) (serial_in : sour
         radio.whole;
     desk_is = record { rest = _; whole = flat_map-append (desk_text explains) answers (last ∷ []) };
   }
-  written_until_fault answers last (inr (radio, desk)) = record {
-    radio = all_radio_bytes (answers ++ last ∷ []);
-    desk = all_desk_text explains answers ++ desk.part;
-    radio_is_added = (radio.writes, radio.accepts);
-    desk_is_added = (desk.earlier ++ desk.last ∷ [], desk.accepts);
-    radio_is = IsPrefix-whole (all_radio_bytes (answers ++ last ∷ []));
-    desk_is = IsPrefix-cut_short (desk_text explains) answers last desk.part desk.unwritten desk.whole;
-  }
+  written_until_fault answers last (inr (radio, desk)) = grind (arith, common_steps)
 
   -- the first of the inputs of these turns were handled with these answers
   served_first : (fault : RunFault) {count : ℕ} (read : List Turn) (chunk : Option (List ℕ)) {handled : List Input}

@@ -1,4 +1,5 @@
 -- The lines of a script and of the desk, and their events.
+use Rattle.std.proofs.lemmas.Grind.{common_steps}
 use Rattle.std.proofs.Common.{◌≡◌, ◌≢◌, ℕ, ◌<◌, ◌≤◌, ◌-◌, List, [], ◌∷◌, ◌++◌, length, refl, ap, sym, subst, ◌∙◌}
 use Rattle.std.proofs.Common.{append-nil, append_assoc, arith, drop, false, get_or, inl, inr, map, suc, take}
 use Rattle.std.specs.Prelude.{◌==◌, ◌⊎◌, if◌then◌else◌, All}
@@ -9,7 +10,6 @@ use Rattle.std.proofs.lemmas.Bool.{eq-eqb, ne_eqb}
 use Rattle.std.proofs.lemmas.Bool.Decides.{eqb_tells}
 use Rattle.std.proofs.lemmas.List.{append_cancel_left, get_or_default, get_or-take, length-take}
 use Rattle.std.proofs.lemmas.List.Elements.{All-cons, All-head, All-nil, All-tail}
-use Rattle.std.proofs.lemmas.List.Concat.{flat_map-append}
 use Rattle.std.proofs.lemmas.List.Splits.{slice_split_none, slice_split_at, length-slice_split}
 use Rattle.memchr.specs.Find.{Nowhere, Passes, is_byte}
 use Rattle.gateway_core.specs.Events.{InputEvent, Line}
@@ -121,7 +121,8 @@ splits (byte ∷ bytes) =
       rest = rest;
       whole = ap (λ s. byte ∷ s) whole;
       each = All-cons HasNoLf (byte ∷ line) ended
-          (All-cons (λ b. b ≢ 10) byte line other (All-head HasNoLf line ended each)) (All-tail HasNoLf line ended each);
+          (All-cons (λ b. b ≢ 10) byte line other (All-head HasNoLf line ended each))
+          (All-tail HasNoLf line ended each);
       no_lf = no_lf;
     }
 
@@ -129,11 +130,7 @@ splits (byte ∷ bytes) =
 pub ended-append : {first : List ℕ} (second : List ℕ) (ended more : List (List ℕ)) (rest last : List ℕ)
     → first ≡ flat_map with_lf ended ++ rest → rest ++ second ≡ flat_map with_lf more ++ last
     → first ++ second ≡ flat_map with_lf (ended ++ more) ++ last
-ended-append second ended more rest last whole later =
-    ap (λ s. s ++ second) whole ∙ append_assoc (flat_map with_lf ended) rest second
-    ∙ ap (λ s. flat_map with_lf ended ++ s) later
-    ∙ sym (append_assoc (flat_map with_lf ended) (flat_map with_lf more) last)
-    ∙ ap (λ s. s ++ last) (sym (flat_map-append with_lf ended more))
+ended-append second ended more rest last whole later = grind (arith, common_steps)
 
 pub flat_map-with_lf : (ended : List (List ℕ))
     → (flat_map with_lf ended ≡ []) ⊎ ((front : List ℕ) × (flat_map with_lf ended ≡ with_lf front))
@@ -172,9 +169,7 @@ orders_after-split {before} lines bytes =
     ∙ drop-append_seam (desk_line_events before) (desk_line_events (lines.rest ++ bytes))
 
 pub orders_after-nothing : (before : List ℕ) → orders_after before [] ≡ []
-orders_after-nothing before =
-    let lines = splits before in
-    orders_after-split lines [] ∙ ap desk_line_events (append-nil lines.rest) ∙ orders-none lines.rest lines.no_lf
+orders_after-nothing before = grind (arith, common_steps)
 
 orders-append : (before bytes : List ℕ)
     → desk_line_events (before ++ bytes) ≡ desk_line_events before ++ orders_after before bytes

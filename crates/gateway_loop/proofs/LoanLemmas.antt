@@ -41,7 +41,8 @@ module _ {W S : Type 0} (stored : S → DeviceStoreState) (sink : sinks.Ghosts W
   -- a whole script, with the line that its end ends
   pub takes-script : {old mid : LineSplitter (ReplayOutput W) S} {new : Driver (ReplayOutput W) S} {input : List ℕ}
       → (taken : TakesEndedLines stored replay_output ScriptLines old mid input)
-      → Takes stored replay_output mid.driver new (script taken.rest) → Takes stored replay_output old.driver new (script input)
+      → Takes stored replay_output mid.driver new (script taken.rest) → Takes stored replay_output old.driver new
+      (script input)
   takes-script taken last = rw (script-lines taken) (takes-append replay_output taken.taken last)
 
   -- `gateway` and `writer` are the values after the loans
@@ -156,7 +157,8 @@ module _ {R D S : Type 0} (stored : S → DeviceStoreState) (serial_sinks : sink
       rw (same_gateway, same_serial, same_desk) (Breaks-weaker broken (λ _ _ out. out.1))
 
   pub live_breaks_at_order : {turns : List Turn}
-      → BreaksAtOrder stored old.gateway.now new.gateway.now turns (live_output_borrowed.breaks old.reply_sink new.reply_sink)
+      → BreaksAtOrder stored old.gateway.now new.gateway.now turns
+      (live_output_borrowed.breaks old.reply_sink new.reply_sink)
       → BreaksAtOrder stored old.gateway.now gateway turns (output.breaks old_sinks new_sinks)
   live_breaks_at_order broken = record {
     earlier_turns = broken.earlier_turns;

@@ -11,7 +11,7 @@ use Rattle.std.proofs.lemmas.Result.{MatchResult-weaker}
 use Rattle.hex.specs.Hex.{decode_of}
 use Rattle.desk_orders.specs.Limits.{max_line}
 use Rattle.gateway_core.specs.Step.{Input, Received, Ordered, Answer}
-use Rattle.gateway_core.proofs.ForCallers.{handles_alike}
+use Rattle.gateway_core.proofs.ForCallers.{too_long-handled_alike}
 use Rattle.esp3_frames.specs.Packet.{Packet}
 use Rattle.gateway_core.specs.Calls.{GatewayValue}
 use Rattle.gateway_core.specs.Events.{InputEvent, Chunk, Line, inputs_of, bytes_in}
@@ -59,7 +59,7 @@ module _ {S : Type 0} {stored : S → DeviceStoreState} (short long : List ℕ) 
         processed = record {
           answered = record {
             answers = answered.answers;
-            handled = handles_alike stored _ _ short long answered.answers is_long is_too answered.handled;
+            handled = too_long-handled_alike stored _ _ short long answered.answers is_long is_too answered.handled;
             out = answered.out;
           };
           rest = takes.processed.rest;
@@ -92,7 +92,8 @@ module _ {S : Type 0} {stored : S → DeviceStoreState} (short long : List ℕ) 
             answered = record {
               answers = answered.answers;
               last = answered.last;
-              handled = handles_alike stored _ _ short long (answered.answers ++ answered.last ∷ []) is_long is_too
+              handled = too_long-handled_alike stored _ _ short long (answered.answers ++ answered.last ∷ []) is_long
+                  is_too
                   answered.handled;
               out = answered.out;
             };

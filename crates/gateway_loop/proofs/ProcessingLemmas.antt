@@ -8,7 +8,8 @@ use Rattle.gateway_core.specs.Step.{Input, Answer}
 use Rattle.gateway_core.specs.Handling.{HandlerValue}
 use Rattle.gateway_core.specs.Calls.{GatewayValue}
 use Rattle.gateway_core.specs.Events.{InputEvent, inputs_of}
-use Rattle.gateway_core.proofs.ForCallers.{count_on, handles-nothing, handles-append, items_behind, rest_behind}
+use Rattle.gateway_core.proofs.ForCallers.{saturated_sum-twice, handles-nothing, handles-append, inputs_of-more_events}
+use Rattle.gateway_core.proofs.ForCallers.{rest_of-more_events}
 use Rattle.gateway_loop.specs.declared.driver.Driver.{Driver}
 use Rattle.gateway_loop.specs.OutputSpecs.{OutputSpec}
 use Rattle.gateway_loop.specs.Processing.{AnswersInputs, Breaks, HasNoReadyPacket, LastAnswerCutShort, Processes}
@@ -108,9 +109,9 @@ module _ {S : Type 0} {stored : S → DeviceStoreState} {O : Type 0} (output : O
       let rest = old.gateway.now.rest in
       let after = mid.gateway.now.rest in
       record {
-        answered = rw (items_behind rest after events more first.rest)
+        answered = rw (inputs_of-more_events rest after events more first.rest)
             (answers-append old.reply_sink mid.reply_sink new.reply_sink first.answered second.answered);
-        rest = second.rest ∙ rest_behind rest after events more first.rest;
+        rest = second.rest ∙ rest_of-more_events rest after events more first.rest;
         idle = second.idle;
       }
 
@@ -130,15 +131,16 @@ module _ {S : Type 0} {stored : S → DeviceStoreState} {O : Type 0} (output : O
         begun_is_prefix = second.begun_is_prefix;
         inputs = inputs ++ second.inputs;
         handled_of_begun_event = second.handled_of_begun_event;
-        inputs_are = rw (items_behind rest after events more first.rest, append_assoc, ← second.inputs_are) refl;
+        inputs_are = rw (inputs_of-more_events rest after events more first.rest, append_assoc, ← second.inputs_are)
+            refl;
         not_empty = second.not_empty;
         ready_packets_are = rw (
           all,
-          items_behind rest after events last first.rest,
+          inputs_of-more_events rest after events last first.rest,
           second.ready_packets_are,
           append_assoc,
         ) refl;
-        rest = rw (all, ← rest_behind rest after events last first.rest) second.rest;
+        rest = rw (all, ← rest_of-more_events rest after events last first.rest) second.rest;
         answered =
             answers-cut_short old.reply_sink mid.reply_sink new.reply_sink first.answered second.answered;
       }
@@ -155,6 +157,7 @@ module _ {S : Type 0} {stored : S → DeviceStoreState} {O : Type 0} (output : O
       record {
         processed = processes-append old mid new first.processed second.processed;
         counted =
-            rw (items_behind rest mid.gateway.now.rest events more first.processed.rest, length-append)
-            (count_on old.items mid.items new.items (length (inputs_of rest events)) _ first.counted second.counted);
+            rw (inputs_of-more_events rest mid.gateway.now.rest events more first.processed.rest, length-append)
+            (saturated_sum-twice old.items mid.items new.items (length (inputs_of rest events)) _ first.counted
+            second.counted);
       }

@@ -62,7 +62,8 @@ reads-push {old} {mid} {new} {reads} count buffer succeeded within room (some, e
     let bytes = take count buffer in
     let read : IsNextRead old.unread (concat reads) bytes = record {
       short = omega (arith, room, length-take count buffer);
-      empty = λ none. all_read old.unread mid.unread new.unread (concat reads) bytes succeeded.returns.consumed some none
+      empty = λ none. all_read old.unread mid.unread new.unread (concat reads) bytes succeeded.returns.consumed some
+          none
           (end (take-empty count buffer within none) (omega (arith, room)));
     } in
     record {

@@ -1,5 +1,6 @@
 -- How a live gateway continues with turns.
-use Rattle.std.proofs.Common.{◌≡◌, ℕ, ◌<◌, ◌^◌, List, [], ◌∷◌, ◌++◌, length, refl, ap, sym, ◌∙◌, append_assoc, append-nil}
+use Rattle.std.proofs.Common.{◌≡◌, ℕ, ◌<◌, ◌^◌, List, [], ◌∷◌, ◌++◌, length, refl, ap, sym, ◌∙◌, append_assoc}
+use Rattle.std.proofs.Common.{append-nil}
 use Rattle.std.specs.List.{flat_map}
 use Rattle.std.specs.Str.Lines.{strip_carriage_return}
 use Rattle.std.proofs.lemmas.List.{length-map}
@@ -71,7 +72,8 @@ pub length-desk_reads : (read : List Turn) → length (desk_reads read) ≡ leng
 length-desk_reads read = length-map read (λ (turn : Turn). turn.desk)
 
 -- the turns were taken, and the first bytes of the desk's partial line are kept
-pub record TakesTurns {O S : Type 0} (stored : S → DeviceStoreState) (output : OutputSpec O) (old new : LineSplitter O S)
+pub record TakesTurns {O S : Type 0} (stored : S → DeviceStoreState) (output : OutputSpec O)
+    (old new : LineSplitter O S)
     (read : List Turn) : Type 0 where
   pub lines : Splits (desk_bytes read)
   pub keeps : KeepsTruncatedLine lines.rest new.partial

@@ -23,7 +23,8 @@ part_of_front old new front back cut_short = record {
   part = cut_short.part;
   unwritten = cut_short.unwritten ++ back;
   whole = ap (λ s. s ++ back) cut_short.whole ∙ append_assoc cut_short.part cut_short.unwritten back;
-  unwritten_is_not_empty = let some = cut_short.unwritten_is_not_empty in omega (arith, length-append cut_short.unwritten back);
+  unwritten_is_not_empty = let some = cut_short.unwritten_is_not_empty in omega
+      (arith, length-append cut_short.unwritten back);
   earlier = cut_short.earlier;
   last = cut_short.last;
   accepts = cut_short.accepts;

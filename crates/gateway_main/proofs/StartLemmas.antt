@@ -57,7 +57,8 @@ module _ {C : Type 0} (state : C → State) (commits : C → Option ℕ) (databa
 -- ---- a failed start
 
 -- if the disk has returned what was written until a start failed, it had before
-pub was_clean_before_start : (old new : State) (fault : Fault) → FailsToStart old new fault → HasCleanDisk new → HasCleanDisk old
+pub was_clean_before_start : (old new : State) (fault : Fault) → FailsToStart old new fault → HasCleanDisk new
+    → HasCleanDisk old
 was_clean_before_start old new (Database why) (inl failed) clean = failed.clean clean
 was_clean_before_start old new (Database why) (inr opened) clean = (opened.1 clean).0
 was_clean_before_start old new CannotOpenFile failed clean = absurd failed
@@ -80,8 +81,10 @@ failed_start_keeps_devices old new (Database why) settled (inr opened) clean is_
     let registry = opening.registries trees may_leave in
     subst (OpenFinds trees) (opens.crash registry.devices (trees, may_leave, registry.holds)
     ∙ found_devices_are_unique _ found devices opens.found has) (inl (Second, registry.holds))
-failed_start_keeps_devices old new CannotOpenFile settled failed clean is_open devices has trees may_leave = absurd failed
-failed_start_keeps_devices old new (Run stopped) settled failed clean is_open devices has trees may_leave = absurd failed
+failed_start_keeps_devices old new CannotOpenFile settled failed clean is_open devices has trees may_leave = absurd
+    failed
+failed_start_keeps_devices old new (Run stopped) settled failed clean is_open devices has trees may_leave = absurd
+    failed
 
 -- a start rejects only what no open finds devices in
 pub rejected_is_foreign : (old new : State) (fault : Fault) → FailsToStart old new fault → fault ≡ Database NotARegistry

@@ -10,13 +10,10 @@ kept : {V A B : Type 0} (old new : LruCache ℕ V) (id : ℕ) (v : V) (r : Resul
     → Contains new.entries e → Contains old.entries e ⊎ (e ≡ (id, v))
 kept old new id v (Ok a) put same e has = elim (Contains-put_entries eqb old id v e (rw put at has)) [
   | inl was ↦ inl was
-  | inr is ↦ inr (elim is.1 [
-    | inl same ↦ λ i. (same i, is.0 i)
-    | inr tied ↦ λ i. (sym (eqb-true id e.0 tied.2) i, is.0 i)
-  ])
+  | inr (is, inl same) ↦ inr (λ i. (same i, is i))
+  | inr (is, inr tied) ↦ inr (λ i. (sym (eqb-true id e.0 tied.2) i, is i))
 ]
 kept old new id v (Err b) put same e has = inl (rw same at has)
 
 pub returns-clause-kept : goal.returns-clause-kept
-returns-clause-kept c = kept c.args.cache.now c.put-replaced.new.self c.args.id c.args.known c.put-replaced.result
-    c.put-replaced.ensures.entries c.put-replaced.ensures.err
+returns-clause-kept c = kept _ _ _ _ c.put-replaced.result c.put-replaced.ensures.entries c.put-replaced.ensures.err

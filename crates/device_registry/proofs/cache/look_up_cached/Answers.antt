@@ -1,7 +1,5 @@
-use Rattle.keyed_table.proofs.Common.{eqb-true, rules, ◌≡◌, ◌∙◌, None, eqb, ap, is_some}
+use Rattle.keyed_table.proofs.Common.{eqb-true, rules, eqb}
 use Rattle.std.proofs.lemmas.Map.Views.{Contains-from_lookup}
-use Rattle.std.specs.Map.{lookup}
-use Rattle.lru.specs.LruCache.{promoted}
 use Rattle.lru.proofs.CallerLemmas.{Contains-promoted}
 use Rattle.lru.proofs.Pairs.{promoted_absent}
 use Rattle.device_registry.proofs.cache.look_up_cached.Goals as goal
@@ -19,7 +17,4 @@ returns-in_err-known-clause-kept c = search (rules, Contains-promoted (eqb c.arg
 
 pub returns-in_err-known-clause-unchanged : goal.returns-in_err-known-clause-unchanged
 returns-in_err-known-clause-unchanged c =
-    let same : c.get.follows.lender-at-none.entries ≡ promoted
-    (eqb c.args.id) c.args.cache.now.entries = search rules in
-    let none : lookup (eqb c.args.id) c.args.cache.now.entries ≡ None = search rules in
-    rw c.from_residual.ensures (same ∙ (promoted_absent eqb c.args.cache.now c.args.id (ap is_some none)).1)
+    search (rules, (promoted_absent eqb c.args.cache.now c.args.id (search rules)).1)

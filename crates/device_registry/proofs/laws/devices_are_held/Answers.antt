@@ -5,6 +5,6 @@ use Rattle.device_registry.proofs.laws.devices_are_held.Goals as goal
 pub returns : goal.returns
 returns g c = rw (← c.registry.view_is, ← c.table.view_is) (λ clean.
     elim (cases_Bool (g.C.SqlConnection.state c.table.inside.conn).is_open) [
-      | inl is ↦ let it = c.table.invariant.1 clean is in (it.held, λ _ _. it.shows.holds)
+      | inl is ↦ let ready = c.table.invariant.1 clean is in (ready.held, λ _ _. ready.shows.holds)
       | inr closed ↦ (empty, λ _ is_open. absurd (let e = sym closed ∙ is_open in cc))
     ])

@@ -8,16 +8,17 @@ use Rattle.device_registry.proofs.laws.registries_are_in_range.Goals as goal
 rows-in : (rows : List Row) → AllByRecursion IsDeviceRow rows → AreInRange (devices_in rows)
 rows-in [] all = empty-in
 rows-in (row ∷ rows) all =
-    entered-in (devices_in rows) (entry_of row).0 (Some (entry_of row).1) (row-in row all.0) (rows-in rows all.1)
+    entered-in (devices_in rows) _ (Some (entry_of row).1) (row-in row all.0) (rows-in rows all.1)
 
 found-in : (trees : Trees) (devices : Devices) → OpenFinds trees devices → AreInRange devices
-found-in trees devices (inl (version, it)) = subst AreInRange it.holds.is (rows-in _ it.holds.registry.valid_rows.rows)
+found-in trees devices (inl (version, held)) =
+    subst AreInRange held.holds.is (rows-in _ held.holds.registry.valid_rows.rows)
 found-in trees devices (inr (free, none)) = subst AreInRange (sym none) empty-in
 
 pub returns : goal.returns
 returns g c = record {
   held = λ c devices clean is_open has.
-      let it = has clean is_open in subst AreInRange it.is (rows-in _ it.registry.valid_rows.rows);
+      let registry = has clean is_open in subst AreInRange registry.is (rows-in _ registry.registry.valid_rows.rows);
   left = λ c devices (trees, leaves, holds). found-in trees devices (inl (Second, holds));
   found = found-in;
   opened = λ old new devices opens. found-in _ devices opens.found;

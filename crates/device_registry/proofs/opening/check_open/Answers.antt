@@ -4,9 +4,5 @@ use Rattle.device_registry.proofs.opening.check_open.Goals as goal
 
 pub returns-in_err-_statement-clause-kept : goal.returns-in_err-_statement-clause-kept
 returns-in_err-_statement-clause-kept g c clean =
-    not_run_kept (codes "SELECT 1") [] _ _ c.from_residual.result _ (λ is_open. record {
-      is_open = is_open;
-      idle = c.requires.idle;
-      settled = c.is_autocommit-idle.ensures.settled (search rules) is_open;
-      sound = (c.schema-schema.ensures.live is_open).0;
-    }) (c.in_err-_statement.ensures.err clean [])
+    not_run_kept (codes "SELECT 1") [] _ _ c.from_residual.result _ (λ is_open. search rules)
+    (c.in_err-_statement.ensures.err clean [])

@@ -27,9 +27,6 @@ loop-turn-init g c =
       );
     }
 
-pub process_chunk-requires : goal.process_chunk-requires
-process_chunk-requires g c = c.loop-turn.invariant.idle
-
 -- ---- a read of the serial line fails
 
 pub returns-in_default : goal.returns-in_default

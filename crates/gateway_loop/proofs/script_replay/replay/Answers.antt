@@ -4,10 +4,9 @@ use Rattle.std.specs.Prelude.{◌≢◌}
 use Rattle.std.proofs.lemmas.List.Elements.{All-nil, All-push}
 use Rattle.byte_io.proofs.ForCallers.{concat-more}
 use Rattle.gateway_loop.specs.Processing.{HasNoReadyPacket}
-use Rattle.gateway_loop.specs.Script.{script}
 use Rattle.gateway_loop.proofs.EndLemmas.{replay_ends, replay_read_fails, replay_uses_all_turns, replay_write_fails}
-use Rattle.gateway_loop.proofs.LineSplitterLemmas.{first_splitter, keeps-nothing, takes_lines-append}
-use Rattle.gateway_loop.proofs.LineSplitterLemmas.{takes_lines-break, takes_lines-nothing}
+use Rattle.gateway_loop.proofs.LineSplitterLemmas.{first_splitter, keeps-nothing, takes_lines-append, takes_lines-break}
+use Rattle.gateway_loop.proofs.LineSplitterLemmas.{takes_lines-nothing}
 use Rattle.gateway_loop.proofs.ReadLemmas.{concat-end, reads-end, reads-fail, reads-push, reads-nothing, take-some}
 use Rattle.gateway_loop.proofs.LoanLemmas.{replay_breaks_at_end, replay_breaks_at_line, replay_processes}
 use Rattle.gateway_loop.proofs.LoanLemmas.{replay_ended_lines, takes-script}
@@ -126,7 +125,8 @@ returns-in_default-process_bytes g c =
         some = All-push (λ (bytes : List ℕ). bytes ≢ []) reads bytes some
             (take-some c.in-Ok.length c.read.new.buffer returned.within c.if-length-eq0.false);
         broken = rw (concat-more reads bytes)
-            (replay_breaks_at_line g.S.DeviceStore.store_state g.W.Sink (first_splitter taken) c.process_bytes.new.self _ _
+            (replay_breaks_at_line g.S.DeviceStore.store_state g.W.Sink (first_splitter taken)
+            c.process_bytes.new.self _ _
             (search rules) (search rules)
             (takes_lines-break bytes taken
             (c.in_default-process_bytes.ensures.stopped taken.rest taken.keeps)));

@@ -31,5 +31,6 @@ returns-in-Err-start-clause-holds g c devices held clean =
     let found = held_in_files _ _ devices finds held in (
       λ is. rejected_is_foreign _ _ c.in-Err-start.fault failed is clean devices found,
       λ trees may. c.in-Err-start.ensures.kept clean
-          (c.in-Ok.ensures.opened (was_clean_before_start _ _ c.in-Err-start.fault failed clean)).0.is_open devices found trees may,
+          (c.in-Ok.ensures.opened (was_clean_before_start _ _ c.in-Err-start.fault failed clean)).0.is_open devices
+          found trees may,
     )

@@ -18,8 +18,7 @@ invariant_of-self-2 g c = keeps_well c.list_devices.ensures.stays c.self.invaria
 pub returns-clause-lists : goal.returns-clause-lists
 returns-clause-lists g c =
     let stays = c.list_devices.ensures.stays in
-    let listed = c.in_ok-rows.ensures.all in
-    rw (← c.self.view_is) (lists_all stays c.self.invariant c.list_devices.ensures.counted
-    c.decode_all.result (λ clean devices has.
-    IfOk-weaker c.decode_all.result _ _ (λ all read. read ∙ ap (map shown_device) c.deref.ensures.value
-    ∙ reports stays c.self.invariant listed clean devices has) c.decode_all.ensures.listed))
+    rw (← c.self.view_is) (lists_all stays c.self.invariant c.list_devices.ensures.counted c.decode_all.result
+    (λ clean devices has. IfOk-weaker c.decode_all.result _ _ (λ all read. read
+    ∙ ap (map shown_device) c.deref.ensures.value
+    ∙ reports stays c.self.invariant c.in_ok-rows.ensures.all clean devices has) c.decode_all.ensures.listed))

@@ -16,7 +16,6 @@ invariant_of-self-2 g c = keeps_well c.look_up.ensures.stays c.self.invariant
 pub returns-clause-looks_up : goal.returns-clause-looks_up
 returns-clause-looks_up g c =
     let stays = c.look_up.ensures.stays in
-    rw (← c.self.view_is) (looks_up stays c.self.invariant c.look_up.ensures.counted
-    c.decode_found.result (λ clean devices has.
-    (rw c.deref.ensures.value at c.decode_found.ensures.found) (device_of devices c.args.id)
+    rw (← c.self.view_is) (looks_up stays c.self.invariant c.look_up.ensures.counted c.decode_found.result
+    (λ clean devices has. (rw c.deref.ensures.value at c.decode_found.ensures.found) (device_of devices c.args.id)
     (reports stays c.self.invariant c.in_ok-rows.ensures.found clean devices has)))

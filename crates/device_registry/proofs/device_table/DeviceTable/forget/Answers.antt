@@ -1,6 +1,6 @@
 use Rattle.keyed_table.proofs.Common.{◌∙◌, ap, is_some}
 use Rattle.device_registry.proofs.Common.{forget_update}
-use Rattle.device_registry.proofs.OpenCalls.{counts_one}
+use Rattle.device_registry.proofs.OpenCalls.{run-rewrites}
 use Rattle.device_registry.proofs.RegistryCalls.{err_is, turned_well, updates, made_ready}
 use Rattle.learned_devices.proofs.ForCallers.{one_more_commit}
 use Rattle.device_registry.proofs.device_table.DeviceTable.forget.Goals as goal
@@ -37,7 +37,7 @@ returns g c =
           (g.met.C.SqlConnection.settled c.delete_or_rewrite_if_absent.new.conn);
       written = λ clean devices has none.
           let early = turns.clean clean in
-          counts_one _ _ done.field-0 (ready early) (done.ensures.written clean
+          run-rewrites _ _ done.field-0 (ready early) (done.ensures.written clean
           ((rw (← c.self.view_is) at c.requires.known) early devices has ∙ ap is_some none));
       ready = made_ready update c.self.invariant ready turns;
     })

@@ -1,6 +1,8 @@
+use Rattle.std.proofs.Common.{rules}
 use Rattle.keyed_table.proofs.Common.{◌∙◌, Err, None, sym}
 use Rattle.device_registry.proofs.Common.{learn_update, device_data}
-use Rattle.device_registry.proofs.RegistryCalls.{err_is, shown_before, keeps, keeps_well, both_ready, reports, looks_up}
+use Rattle.device_registry.proofs.RegistryCalls.{err_is, shown_before, keeps, keeps_well, ready_before, reports}
+use Rattle.device_registry.proofs.RegistryCalls.{looks_up}
 use Rattle.device_registry.proofs.RegistryCalls.{unlearned, made_ready, upserted, upserted_learns, upserted_well}
 use Rattle.learned_devices.proofs.ForCallers.{no_more_commits, one_more_commit}
 use Rattle.device_registry.proofs.device_table.DeviceTable.learn_unless_full.Goals as goal
@@ -38,7 +40,7 @@ returns-then-branch g c =
         );
       };
       written = λ clean devices has is. absurd cc;
-      ready = λ clean. both_ready stays c.self.invariant clean (full clean).0;
+      ready = λ clean. (ready_before stays c.self.invariant clean (full clean).0.shows.is_open, (full clean).0);
     })
 
 -- ---- the write
@@ -47,9 +49,12 @@ pub upsert-requires-clause-ready : goal.upsert-requires-clause-ready
 upsert-requires-clause-ready g c clean = (c.in_ok-is_full_for.ensures.full clean).0
 
 pub upsert-requires-clause-room : goal.upsert-requires-clause-room
-upsert-requires-clause-room g c clean devices shows =
-    let before = shown_before c.is_full_for.ensures.stays c.self.invariant clean shows in
-    sym ((c.in_ok-is_full_for.ensures.full clean).1 devices before) ∙ c.if-branch.false
+upsert-requires-clause-room g c clean devices shows = search (
+  rules,
+  shown_before c.is_full_for.ensures.stays
+      c.self.invariant clean shows,
+  (c.in_ok-is_full_for.ensures.full clean).1 devices,
+)
 
 pub invariant_of-self-in_err-upsert : goal.invariant_of-self-in_err-upsert
 invariant_of-self-in_err-upsert g c = upserted_well c.args.device c.upsert.ensures.turns
@@ -71,19 +76,19 @@ invariant_of-self-2 g c = upserted_well c.args.device c.upsert.ensures.turns
 
 pub returns : goal.returns
 returns g c =
-    let it = c.args.device in
+    let device = c.args.device in
     let stays = c.is_full_for.ensures.stays in
     let well = c.self.invariant in
     let made = rw (← c.self.view_is) at c.requires.learned in
     let full = c.in_ok-is_full_for.ensures.full in
     let turns = c.in_ok-upsert.ensures.turns in
-    let done = upserted it turns stays well made full in
+    let done = upserted device turns stays well made full in
     rw (← c.self.view_is) (record {
-      adds = upserted_learns it turns stays well made full c.is_full_for.ensures.counted
+      adds = upserted_learns device turns stays well made full c.is_full_for.ensures.counted
           (one_more_commit c.upsert.ensures.counted) c.if-branch.false
           (g.met.C.SqlConnection.settled c.upsert.new.conn);
       written = λ clean devices has _. record {
-        row = device_data it;
+        row = device_data device;
         is = made (stays.clean (done.clean clean)) devices has;
         before = c.is_full_for.new.conn;
         had = (keeps stays well {a = None} {b = None} (done.clean clean) devices has).now;
@@ -92,6 +97,6 @@ returns g c =
       };
       ready = λ clean. (
         (rw (← c.self.view_is) at c.requires.ready) (stays.clean (done.clean clean)),
-        (made_ready (learn_update it) (keeps_well stays well) (λ early. (full early).0) done clean).1,
+        (made_ready (learn_update device) (keeps_well stays well) (λ early. (full early).0) done clean).1,
       );
     })

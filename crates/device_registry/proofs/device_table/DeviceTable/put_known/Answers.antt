@@ -1,5 +1,5 @@
 use Rattle.device_registry.proofs.Common.{device_data}
-use Rattle.device_registry.proofs.DevicesHeld.{room_if_known}
+use Rattle.device_registry.proofs.DevicesHeld.{room_for_known}
 use Rattle.device_registry.proofs.RegistryCalls.{makes_update, turned_well, updates, made_ready, err_is}
 use Rattle.learned_devices.proofs.ForCallers.{one_more_commit}
 use Rattle.device_registry.proofs.device_table.DeviceTable.put_known.Goals as goal
@@ -7,13 +7,11 @@ use Rattle.device_registry.proofs.device_table.DeviceTable.put_known.Goals as go
 pub upsert-requires : goal.upsert-requires
 upsert-requires g c =
     let known = rw (← c.self.view_is) at c.requires.known in
-    record { ready = rw (← c.self.view_is) at c.requires.ready; room = room_if_known c.args.device known.0 known.1 }
+    record { ready = rw (← c.self.view_is) at c.requires.ready; room = room_for_known c.args.device known.0 known.1 }
 
 pub invariant_of-self : goal.invariant_of-self
-invariant_of-self g c =
-    let known = rw (← c.self.view_is) at c.requires.known in
-    turned_well _ c.self.invariant (rw (← c.self.view_is) at c.requires.ready) _
-    (makes_update c.args.device c.upsert.ensures.turns known.0 known.1)
+invariant_of-self g c = turned_well _ c.self.invariant (rw (← c.self.view_is) at c.requires.ready) _
+    (makes_update c.args.device c.upsert.ensures.turns _ (rw (← c.self.view_is) at c.requires.known).1)
 
 pub returns-in_err-upsert-clause-updates : goal.returns-in_err-upsert-clause-updates
 returns-in_err-upsert-clause-updates g c = rw (← c.self.view_is, err_is _ c.from_residual.ensures.1)
@@ -23,10 +21,8 @@ returns-in_err-upsert-clause-updates g c = rw (← c.self.view_is, err_is _ c.fr
     (g.met.C.SqlConnection.settled c.upsert.new.conn))
 
 pub invariant_of-self-2 : goal.invariant_of-self-2
-invariant_of-self-2 g c =
-    let known = rw (← c.self.view_is) at c.requires.known in
-    turned_well _ c.self.invariant (rw (← c.self.view_is) at c.requires.ready) _
-    (makes_update c.args.device c.upsert.ensures.turns known.0 known.1)
+invariant_of-self-2 g c = turned_well _ c.self.invariant (rw (← c.self.view_is) at c.requires.ready) _
+    (makes_update c.args.device c.upsert.ensures.turns _ (rw (← c.self.view_is) at c.requires.known).1)
 
 pub returns : goal.returns
 returns g c =

@@ -1,10 +1,10 @@
 use Rattle.std.proofs.Common.{rules}
-use Rattle.device_registry.proofs.OpenCalls.{not_asked}
-use Rattle.device_registry.proofs.CacheAgreement.{none_recalled}
+use Rattle.device_registry.proofs.OpenCalls.{fails-without_call}
+use Rattle.device_registry.proofs.CacheAgreement.{CacheAgrees-empty}
 use Rattle.device_registry.proofs.registry.RegistryOver.open_with.Goals as goal
 
 pub returns-in-Err-clause-failed : goal.returns-in-Err-clause-failed
-returns-in-Err-clause-failed g c = search (rules, not_asked)
+returns-in-Err-clause-failed g c = search (rules, fails-without_call)
 
 pub invariant_of-result : goal.invariant_of-result
 invariant_of-result g c = (
@@ -15,5 +15,5 @@ invariant_of-result g c = (
 pub invariant_of-result-in-Ok-prepare : goal.invariant_of-result-in-Ok-prepare
 invariant_of-result-in-Ok-prepare g c = (
   λ clean. (c.in-Ok-prepare.ensures.opened clean).registries,
-  none_recalled c.in-Ok.cache.entries c.in-Ok.ensures,
+  CacheAgrees-empty c.in-Ok.cache.entries c.in-Ok.ensures,
 )

@@ -1,6 +1,6 @@
 use Rattle.keyed_table.proofs.Common.{◌∙◌, Some, option_map, ap, sym}
 use Rattle.device_registry.proofs.Common.{device}
-use Rattle.device_registry.proofs.CacheAgreement.{changed_recalled, cleared_recalled}
+use Rattle.device_registry.proofs.CacheAgreement.{CacheAgrees-cleared, CacheAgrees-updated}
 use Rattle.device_registry.proofs.registry.RegistryOver.store_known.Goals as goal
 
 pub put_known-requires : goal.put_known-requires
@@ -8,10 +8,10 @@ put_known-requires g c = rw (← c.self.view_is) at c.requires
 
 pub invariant_of-self : goal.invariant_of-self
 invariant_of-self g c =
-    let known = rw (← c.self.view_is) at c.requires.known in
-    changed_recalled c.in-Ok.ensures.ready _ _ _ (c.in-Ok.ensures.updates known.0 known.1)
-    (λ clean devices has. ap (λ it. Some it) c.copied-stored.ensures
-    ∙ sym (ap (option_map (device c.args.device.id)) (known.1 clean devices has).1))
+    let (operation, makes) = rw (← c.self.view_is) at c.requires.known in
+    CacheAgrees-updated c.in-Ok.ensures.ready _ _ _ (c.in-Ok.ensures.updates operation makes)
+    (λ clean devices has. ap (λ device. Some device) c.copied-stored.ensures
+    ∙ sym (ap (option_map (device c.args.device.id)) (makes clean devices has).1))
     c.self.invariant.1 c.drop_entry.ensures.kept c.insert_entry.ensures.kept
 
 pub returns-in-Ok : goal.returns-in-Ok
@@ -26,5 +26,5 @@ returns-in-Err-clause-updates g c =
 
 pub invariant_of-self-in-Err : goal.invariant_of-self-in-Err
 invariant_of-self-in-Err g c =
-    let known = rw (← c.self.view_is) at c.requires.known in
-    ((c.put_known.ensures.updates known.0 known.1).reopenable, cleared_recalled _ c.clear.ensures)
+    let (operation, makes) = rw (← c.self.view_is) at c.requires.known in
+    ((c.put_known.ensures.updates operation makes).reopenable, CacheAgrees-cleared _ c.clear.ensures)

@@ -1,7 +1,7 @@
-use Rattle.keyed_table.proofs.Common.{rules, ◌≡◌, ◌∙◌, sym, ap, false, inl, inr, List, ℕ, None, Result, Ok, Err}
-use Rattle.keyed_table.proofs.Common.{and_parts, cases_Bool, Text, column}
-use Rattle.device_registry.proofs.Common.{is_label, is_label_text}
-use Rattle.std.proofs.Common.{IsUtf8, MatchResult}
+use Rattle.std.proofs.Common.{arith, IsUtf8, MatchResult}
+use Rattle.std.proofs.lemmas.Grind.{common_steps}
+use Rattle.keyed_table.proofs.Common.{rules, ◌≡◌, ◌∙◌, sym, false, List, ℕ, None, Result, Ok, Err, and_parts}
+use Rattle.device_registry.proofs.Common.{is_label}
 use Rattle.std.specs.Result.{result_ok}
 use Rattle.learned_devices.proofs.LabelLemmas.{name-utf8}
 use Rattle.device_registry.proofs.table.row_codec.read_label.Goals as goal
@@ -10,15 +10,10 @@ use Rattle.device_registry.proofs.table.row_codec.read_label.Goals as goal
 unread : {A E : Type 0} (P : A → Type 0) (Bad : E → Type 0) (text : List ℕ) (r : Result A E)
     → MatchResult r P Bad → ((e : E) → Bad e → ¬ (IsUtf8 text)) → result_ok r ≡ None → is_label text ≡ false
 unread P Bad text (Ok s) cases bad none = absurd (let e = none in cc)
-unread P Bad text (Err e) cases bad none = elim (cases_Bool (is_label text)) [
-  | inl is ↦ absurd (bad e cases (name-utf8 text (and_parts _ _ is).0))
-  | inr other ↦ other
-]
+unread P Bad text (Err e) cases bad none = grind (arith, common_steps, bad e cases, name-utf8, and_parts)
 
 pub returns-in_err-ok-in-Ok-Text : goal.returns-in_err-ok-in-Ok-Text
 returns-in_err-ok-in-Ok-Text c =
-    let value = column c.args.row.now c.args.at in
-    let is : value ≡ Text c.in-Ok-Text.found.now = search rules in
     let none = unread _ _ c.in-Ok-Text.found.now c.from_utf8.result c.from_utf8.ensures.cases (λ e h. h.0)
     (sym c.ok.ensures.value ∙ c.in_err-ok-in-Ok-Text.was) in
-    rw c.from_residual.ensures (ap is_label_text is ∙ none)
+    search (rules, none)

@@ -1,24 +1,21 @@
+use Rattle.std.proofs.lemmas.Grind.{common_steps}
+use Rattle.std.proofs.Common.{arith}
 use Rattle.std.proofs.Common.{refl, sym, ap, ◌∙◌}
 use Rattle.std.proofs.lemmas.Result.{err_from_is_err_and}
 use Rattle.learned_devices.specs.Devices.{device_of}
 use Rattle.gateway_core.specs.Profiles.{read_by}
 use Rattle.gateway_core.specs.Step.{case_effect, data_case, reading_effect}
-use Rattle.gateway_core.proofs.AttemptLemmas.{known_with, permitted, attempts-looked_up, attempts-after_look_up}
+use Rattle.gateway_core.proofs.AttemptLemmas.{known_with, MayFailFor-store, attempts-looked_up, attempts-after_look_up}
 use Rattle.gateway_core.proofs.AttemptLemmas.{data-need, reading-unchanging, applies-unchanged}
-use Rattle.gateway_core.proofs.TelegramLemmas.{plain-is-data}
+use Rattle.gateway_core.proofs.TelegramLemmas.{plain-is_data}
 use Rattle.gateway_core.proofs.handler.Handler.try_data.Goals as goal
 
 pub reading-requires : goal.reading-requires
-reading-requires g c = plain-is-data c.args.telegram.now (sym c.requires.role ∙ c.requires.data)
+reading-requires g c = plain-is_data c.args.telegram.now (sym c.requires.role ∙ c.requires.data)
 
 pub returns-in_err-device : goal.returns-in_err-device
 returns-in_err-device g c =
-    let error = err_from_is_err_and c.from_residual.result c.from_residual.ensures.1 in
-    rw (← c.self.view_is, error.1, error.2)
-    (attempts-looked_up g.S.DeviceStore.store_state _ _ _ _ _ _ c.in_err-device.ensures
-    (λ devices keeps.
-    let now = known_with c.self.inside.base c.self.inside.mode c.self.inside.counts devices in
-    (permitted _ _ (data-need now c.args.telegram.now (device_of devices c.args.telegram.now.sender)), keeps)))
+    grind (arith, common_steps, attempts-looked_up, data-need, err_from_is_err_and, known_with, MayFailFor-store)
 
 pub returns-in_default : goal.returns-in_default
 returns-in_default g c =
@@ -32,12 +29,7 @@ returns-in_default g c =
 
 pub returns-in_err-done : goal.returns-in_err-done
 returns-in_err-done g c =
-    let error = err_from_is_err_and c.from_residual-in_err-done.result c.from_residual-in_err-done.ensures.1 in
-    rw (← c.self.view_is, error.1, error.2)
-    (attempts-looked_up g.S.DeviceStore.store_state _ _ _ _ _ _ c.in_ok-device.ensures
-    (λ devices found.
-    let now = known_with c.self.inside.base c.self.inside.mode c.self.inside.counts devices in
-    (permitted _ _ (data-need now c.args.telegram.now (device_of devices c.args.telegram.now.sender)), found.1)))
+    grind (arith, common_steps, attempts-looked_up, data-need, err_from_is_err_and, known_with, MayFailFor-store)
 
 pub returns : goal.returns
 returns g c =

@@ -1,14 +1,15 @@
+use Rattle.std.proofs.lemmas.Grind.{common_steps}
+use Rattle.std.proofs.Common.{arith}
 use Rattle.std.proofs.Common.{◌≡◌, true, false, Some, None, Ok, sym, ◌∙◌, ℕ}
 use Rattle.std.specs.Prelude.{is_some, Option}
 use Rattle.std.proofs.lemmas.Result.{err_from_is_err_and}
 use Rattle.desk_orders.specs.Recipients.{recipient_id, sends}
 use Rattle.actuator_commands.specs.Packets.{order_telegram}
 use Rattle.std.specs.Option.{option_copied}
-use Rattle.learned_devices.specs.Devices.{device_of}
 use Rattle.gateway_core.specs.Step.{recipient_device, send_result_effect, order_effect, State}
 use Rattle.gateway_core.specs.private.Attempts.{MatchesEffect, state_of}
 use Rattle.gateway_core.proofs.EffectLemmas.{sends-effect}
-use Rattle.gateway_core.proofs.AttemptLemmas.{permitted, telegram-need, attempts-unasked, send-unchanging}
+use Rattle.gateway_core.proofs.AttemptLemmas.{MayFailFor-store, telegram-need, attempts-unasked, send-unchanging}
 use Rattle.gateway_core.proofs.AttemptLemmas.{attempts-looked_up, applies-unchanged, known_with}
 use Rattle.gateway_core.proofs.handler.Handler.try_send.Goals as goal
 use Rattle.desk_orders.specs.declared.orders.Order.{Order}
@@ -35,14 +36,16 @@ returns-in_default g c =
 
 pub returns-in_err-device : goal.returns-in_err-device
 returns-in_err-device g c =
-    let error = err_from_is_err_and c.from_residual.result c.from_residual.ensures.1 in
-    let base = c.self.inside.base in
-    rw (← c.self.view_is, error.1, error.2)
-    (attempts-looked_up g.S.DeviceStore.store_state _ _ _ _ _ _ c.in_err-device.ensures
-    (λ devices keeps.
-    rw (order-sends (known_with base c.self.inside.mode c.self.inside.counts devices) c.args.order.now
-    (Some c.in-Some.id) c.requires.sends (sym c.recipient_id.ensures ∙ c.in-Some.is))
-    (permitted _ _ (telegram-need (order_telegram c.args.order.now (device_of devices c.in-Some.id) base)), keeps)))
+    grind (
+      arith,
+      common_steps,
+      attempts-looked_up,
+      err_from_is_err_and,
+      known_with,
+      order-sends,
+      MayFailFor-store,
+      telegram-need,
+    )
 
 pub returns : goal.returns
 returns g c =

@@ -1,6 +1,5 @@
 use Rattle.std.proofs.Common.{rules, refl, ◌∙◌}
 use Rattle.std.proofs.lemmas.Result.{err_from_is_err_and}
-use Rattle.gateway_core.specs.Step.{Received}
 use Rattle.gateway_loop.proofs.DriverStepLemmas.{drains-nothing, drains-packet, drains_part-packet}
 use Rattle.gateway_loop.proofs.driver.Driver.answer_ready_packets.Goals as goal
 
@@ -12,11 +11,6 @@ loop-handled-init g c =
       loans = refl;
       drains = drains-nothing g.O.ReplySink.output old.gateway.now old.reply_sink old.items (search rules);
     }
-
-pub answer_packet-requires : goal.answer_packet-requires
-answer_packet-requires g c =
-    let (packet, first, rest, handled) = c.in-Some.ensures in
-    record { handled = (c.loop-handled.self.gateway.now.handler, Received packet, handled) }
 
 pub returns-in_err-answer_packet-clause-broken : goal.returns-in_err-answer_packet-clause-broken
 returns-in_err-answer_packet-clause-broken g c =

@@ -1,17 +1,11 @@
 use Rattle.std.proofs.Common.{take, drop, rules, sym}
 use Rattle.std.proofs.lemmas.List.{take-append-drop}
 use Rattle.std.proofs.lemmas.Result.{err_from_is_err_and}
-use Rattle.gateway_core.specs.Step.{Received}
-use Rattle.gateway_loop.proofs.DriverStepLemmas.{drains-nothing, drains-packet, drains_part-packet}
-use Rattle.gateway_loop.proofs.DriverStepLemmas.{takes-run, breaks-run}
+use Rattle.gateway_loop.proofs.DriverStepLemmas.{drains-nothing, drains-packet, drains_part-packet, takes-run}
+use Rattle.gateway_loop.proofs.DriverStepLemmas.{breaks-run}
 use Rattle.gateway_loop.proofs.driver.Driver.process_front.Goals as goal
 
 -- a packet at the front
-
-pub answer_packet-requires : goal.answer_packet-requires
-answer_packet-requires g c =
-    let (mid, moved, (packet, first, rest, handled)) = c.in-Some.ensures.taken in
-    record { handled = (mid.handler, Received packet, handled) }
 
 pub returns-in_err-answer_packet-clause-taken : goal.returns-in_err-answer_packet-clause-taken
 returns-in_err-answer_packet-clause-taken g c =

@@ -1,12 +1,6 @@
 use Rattle.std.proofs.lemmas.Result.{MatchResult-weaker}
-use Rattle.gateway_core.specs.Step.{Ordered}
 use Rattle.gateway_loop.proofs.DriverStepLemmas.{takes-order, breaks-order}
 use Rattle.gateway_loop.proofs.driver.Driver.process_order.Goals as goal
-
-pub answer_order-requires : goal.answer_order-requires
-answer_order-requires g c =
-    let (ready, rest, handled) = c.order-reply.ensures in
-    record { handled = (c.args.self.now.gateway.now.handler, Ordered c.args.line.now, handled) }
 
 pub returns-clause-taken : goal.returns-clause-taken
 returns-clause-taken g c =

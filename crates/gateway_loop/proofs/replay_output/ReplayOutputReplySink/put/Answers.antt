@@ -1,29 +1,14 @@
-use Rattle.std.proofs.Common.{◌≡◌, [], ◌++◌, ap, refl, sym, ◌∙◌, subst, Some, None}
+use Rattle.std.proofs.Common.{◌≡◌, [], ◌++◌, ap, sym, ◌∙◌, subst, Some, None}
 use Rattle.std.specs.Option.{option_copied, option_map}
-use Rattle.std.proofs.lemmas.Result.{err_from_is_err_and}
 use Rattle.gateway_core.specs.Replies.{answer_of}
 use Rattle.gateway_core.specs.Step.{with_packet_line}
 use Rattle.byte_io.specs.Streams.{SinkValue, sink_value}
-use Rattle.byte_io.specs.Writes.{Writes, WritesPart, WritesText}
+use Rattle.byte_io.specs.Writes.{Writes, WritesText}
 use Rattle.gateway_loop.specs.TextOutput.{text_output}
 use Rattle.gateway_loop.specs.Written.{desk_text, radio_chunk_line, text_of}
-use Rattle.gateway_loop.proofs.WriteLemmas.{puts_by, puts_one, part_of_front, writes-append}
+use Rattle.gateway_loop.proofs.WriteLemmas.{puts_by, puts_one, writes-append}
 use Rattle.gateway_loop.proofs.replay_output.ReplayOutputReplySink.put.Goals as goal
 use Rattle.gateway_loop.proofs.replay_output.ReplayOutputReplySink.put.Goals.{in-Some+in_ok-write_chunk, in_default}
-
-pub returns-in_err-write_chunk-clause-put : goal.returns-in_err-write_chunk-clause-put
-returns-in_err-write_chunk-clause-put g c =
-    let explains = c.args.self.now.explains in
-    let old = sink_value g.W.Sink c.args.self.now.sink.now in
-    let new = sink_value g.W.Sink c.write_chunk.new.writer in
-    let answer = with_packet_line (option_copied c.args.line) (answer_of c.args.reply.now) in
-    let radio : answer.radio ≡ Some c.as_slice.result.now =
-    ap (option_map (λ bytes. bytes.items)) c.in-Some.is ∙ ap Some (sym c.as_slice.ensures.value) in
-    let part : WritesPart old new [] (radio_chunk_line answer.radio) =
-    subst (λ r. WritesPart old new [] (radio_chunk_line r))
-    (sym radio) c.in_err-write_chunk.ensures.written in
-    rw (err_from_is_err_and c.from_residual.result c.from_residual.ensures.1).1
-    (refl, part_of_front old new (radio_chunk_line answer.radio) (desk_text explains answer) part)
 
 pub returns-clause-put : goal.returns-clause-put
 returns-clause-put g c =

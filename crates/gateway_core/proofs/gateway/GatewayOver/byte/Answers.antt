@@ -1,5 +1,0 @@
-use Rattle.std.proofs.Common.{rules}
-use Rattle.gateway_core.proofs.gateway.GatewayOver.byte.Goals as goal
-
-pub returns : goal.returns
-returns g c = search rules
