@@ -347,7 +347,7 @@ class Bridge:
         """The time; None if it is earlier than that of an earlier run, soon after the start: a computer without a clock
         chip has the wrong time until the network is there. Later it counts, since the earlier time may be wrong."""
         now = self.time_of_day()
-        return None if time_text(now) < self.newest_last_seen and self.clock() < self.clock_set_until else now
+        return None if self.clock() < self.clock_set_until and time_text(now) < self.newest_last_seen else now
 
     def handle_message(self, message: ReceivedMessage) -> None:
         """Handles a message from the broker."""

@@ -77,6 +77,8 @@ class Connection:
         self.unacknowledged_numbers: set[int] = set()
         self.unanswered_numbers: set[int] = set()
         self.orders_request = -1
+        # the user properties of the last message that had any, as paho takes them
+        self.last_properties: Any = None
         # how many answers and messages have arrived
         self.arrived_count = 0
         self.began_at = self.acknowledged_at = clock()
@@ -241,9 +243,11 @@ class Connection:
         """With MQTT 5, the user properties of a message."""
         if not (self.is_five and message.properties):
             return {}
-        properties = self.paho.Properties(PUBLISH_PACKET)
-        properties.UserProperty = list(message.properties)
-        return {"properties": properties}
+        if self.last_properties is None or self.last_properties.UserProperty != list(message.properties):
+            # the lines that have arrived together have the same ones
+            self.last_properties = self.paho.Properties(PUBLISH_PACKET)
+            self.last_properties.UserProperty = list(message.properties)
+        return {"properties": self.last_properties}
 
     def request_retained(self, filters: list[str]) -> int:
         """Subscribes to these, to get what the broker retains. The number is in `unanswered` until it is answered."""

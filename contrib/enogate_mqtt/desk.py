@@ -231,7 +231,7 @@ class Desk:
         """What changed since the last call."""
         size = self.note_replacement()
         change, self.change = self.change, DeskChange.NONE
-        if change is not DeskChange.NONE or self.inode == 0:
+        if change is not DeskChange.NONE or self.inode == 0 or size == self.checked_size:
             # opening a pipe that nobody writes would block
             return change
         text = self.last_bytes + self.read(self.checked_size, min(size - self.checked_size, MAX_LOOK))
