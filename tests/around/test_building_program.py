@@ -16,10 +16,10 @@ import tempfile
 import time
 import unittest
 
-from bridge_testcase import MAY_SKIP, PYTHON, has_module, missing_requirement
+from bridge_testcase import MAY_SKIP, missing_requirement
 from enogate_tools import port as ports
 from programs import WITHIN, Program, lines_of, wait_for
-from services import CONTRIB, CTL, HERE, PROGRAM, ROOT
+from services import CONTRIB, CTL, PROGRAM, ROOT
 
 COMMAND, MODULES, TESTS = CONTRIB / "virtual-building", CONTRIB / "enogate_building", ROOT / "tests/building"
 NOBODY = 65534
@@ -287,21 +287,3 @@ class EndOfBuilding(unittest.TestCase):
         process = subprocess.run([ROOT / "scripts/building", "/none"], capture_output=True, text=True)
         self.assertEqual((process.returncode, process.stderr),
                          (1, "/none not found: run `make demo` or `make build` first\n"))
-
-
-class Sources(unittest.TestCase):
-    """Their form."""
-
-    def assert_prints_nothing(self, *words: str | pathlib.Path) -> None:
-        """This program ends with status 0. It would print the faults."""
-        run = subprocess.run(words, stdout=subprocess.PIPE, stderr=subprocess.STDOUT, text=True)
-        self.assertEqual((run.stdout, run.returncode), ("", 0))
-
-    def test_functions_and_lines_are_short(self) -> None:
-        self.assert_prints_nothing(sys.executable, HERE / "functions.py", COMMAND, *MODULES.glob("*.py"),
-                                   *TESTS.glob("*.py"), __file__)
-
-    def test_pyflakes(self) -> None:
-        if MAY_SKIP and not has_module("pyflakes"):
-            self.skipTest("python3-pyflakes is not installed")
-        self.assert_prints_nothing(PYTHON, "-m", "pyflakes", COMMAND, MODULES, TESTS, __file__)

@@ -8,16 +8,14 @@ import signal
 import socket
 import struct
 import subprocess
-import sys
 import tempfile
 import time
 import unittest
 
-from bridge_testcase import PYTHON, MAY_SKIP, has_module
 from modbus_testcase import GOOD, NO_NUMBER, NO_READING, REQUEST, STALE, ModbusBroker, ModbusTest, Server, \
     seconds_since
 from programs import Program, lines_of, wait_for
-from services import CONTRIB, HERE, PROGRAM, ROOT, Bridge, Gateway, Stick
+from services import CONTRIB, PROGRAM, ROOT, Bridge, Gateway, Stick
 
 ROOM, LAMP, WINDOW = "01800ABC/TMP", "01800ABD/OV/0", "01800ABE/CO"
 UNKNOWN_AGE = 65535
@@ -346,24 +344,6 @@ class WholeBuilding(ModbusTest):
         for topic in ("01800A2E/OV/0", "01800A30/POS/0"):
             self.assertFalse(client.write_register(int(self.server.row(topic)["output"]), 30).isError())
             self.assert_soon(lambda: self.reading(topic)[:2], (30.0, GOOD))
-
-
-class Sources(unittest.TestCase):
-    """Their form."""
-
-    def assert_prints_nothing(self, *words: str | pathlib.Path) -> None:
-        """This program ends with status 0. It would print the faults."""
-        run = subprocess.run(words, stdout=subprocess.PIPE, stderr=subprocess.STDOUT, text=True)
-        self.assertEqual((run.stdout, run.returncode), ("", 0))
-
-    def test_functions_and_lines_are_short(self) -> None:
-        self.assert_prints_nothing(sys.executable, HERE / "functions.py", COMMAND, *MODULES.glob("*.py"),
-                                   *TESTS.glob("*.py"))
-
-    def test_pyflakes(self) -> None:
-        if MAY_SKIP and not has_module("pyflakes"):
-            self.skipTest("python3-pyflakes is not installed")
-        self.assert_prints_nothing(PYTHON, "-m", "pyflakes", COMMAND, MODULES, TESTS)
 
 
 if __name__ == "__main__":

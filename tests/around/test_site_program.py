@@ -13,7 +13,7 @@ import tempfile
 import unittest
 from collections.abc import Callable
 
-from bridge_testcase import MAY_SKIP, PYTHON, has_module, missing_requirement
+from bridge_testcase import MAY_SKIP, missing_requirement
 from broker import PEOPLE_LOGIN, Broker, Listener
 from programs import Program, lines_of, wait_for
 from services import COMMANDS, CONTRIB, CTL, HERE, ROOT
@@ -324,20 +324,3 @@ class Campus(unittest.TestCase):
     def press_until_published(self) -> None:
         count_before = self.press()
         self.wait(lambda: self.press() > count_before)
-
-
-class Sources(unittest.TestCase):
-    """Their form."""
-
-    def assert_prints_nothing(self, *words: str | pathlib.Path) -> None:
-        """This program ends with status 0. It would print the faults."""
-        run = subprocess.run(words, stdout=subprocess.PIPE, stderr=subprocess.STDOUT, text=True)
-        self.assertEqual((run.stdout, run.returncode), ("", 0))
-
-    def test_functions_and_lines_are_short(self) -> None:
-        self.assert_prints_nothing(sys.executable, HERE / "functions.py", *SOURCES)
-
-    def test_pyflakes(self) -> None:
-        if MAY_SKIP and not has_module("pyflakes"):
-            self.skipTest("python3-pyflakes is not installed")
-        self.assert_prints_nothing(PYTHON, "-m", "pyflakes", *SOURCES)

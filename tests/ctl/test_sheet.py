@@ -13,7 +13,7 @@ SPELLINGS = (("Küche", "Kueche"), ("Tür Büro", "Tuer Buero"), ("Straße", "St
              ("ü" * 40, "ue" * 16), ("x" * 31 + " ü", "x" * 31))
 
 
-def listed(*labels):
+def listed_devices(*labels):
     return [Listed(f"01800A{number:02X}", "D5-00-01", label, 70) for number, label in enumerate(labels)]
 
 
@@ -24,17 +24,17 @@ class CsvRows(TimeLimitedTest):
         return [(number, str(row) if isinstance(row, InvalidRow) else row) for number, row in Sheet(text).rows()]
 
     def test_export(self):
-        self.assertEqual(sheet.devices_as_csv(listed("Door, \"A\"", "=x", "")),
+        self.assertEqual(sheet.devices_as_csv(listed_devices("Door, \"A\"", "=x", "")),
                          'id,eep,label\n01800A00,D5-00-01,"Door, ""A"""\n01800A01,D5-00-01,\'=x\n01800A02,D5-00-01,\n')
         self.assertEqual(sheet.devices_as_csv([]), "id,eep,label\n")
 
     def test_no_cell_begins_a_formula(self):
-        for row in sheet.devices_as_csv(listed(*LABELS)).splitlines():
+        for row in sheet.devices_as_csv(listed_devices(*LABELS)).splitlines():
             for cell in sheet.csv.reader([row]):
                 self.assertNotIn(cell[-1][:1], tuple("=+-@"))
 
     def test_round_trip(self):
-        devices = listed(*LABELS)
+        devices = listed_devices(*LABELS)
         self.assertEqual([row for _, row in Sheet(sheet.devices_as_csv(devices)).rows()],
                          [DeviceRow(device.device, device.eep, device.label) for device in devices])
 
@@ -161,7 +161,7 @@ class CsvRows(TimeLimitedTest):
 
     def test_other_columns_in_an_export(self):
         others = {"01800A00": ("2.14", "=x"), "01800AFF": ("1", "")}
-        self.assertEqual(sheet.devices_as_csv(listed("Door", ""), ("Room", "Notes"), others),
+        self.assertEqual(sheet.devices_as_csv(listed_devices("Door", ""), ("Room", "Notes"), others),
                          "id,eep,label,Room,Notes\n01800A00,D5-00-01,Door,2.14,'=x\n01800A01,D5-00-01,,,\n")
 
 

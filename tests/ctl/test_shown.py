@@ -136,7 +136,7 @@ class AnswerTexts(GatewayFilesTest):
 
     def test_a_list(self):
         self.write(reading("01800ABC"), reading("01800ABD", "A5-02-05", TEMPERATURE, None), reading("01800ABE"))
-        bridge(self, "01800ABC", NOW - timedelta(minutes=5))
+        save_bridge_state(self, "01800ABC", NOW - timedelta(minutes=5))
         # no label that a gateway writes has control characters
         self.enterContext(mock.patch("enogate_lines.contents.OPTIONAL_TEXT_PATTERN", ".*"))
         self.assertEqual(self.shown(device("01800ABC", "Do\x1bor"), device("01800ABD", eep="A5-02-05"),
@@ -173,15 +173,15 @@ Do?or  01800ABC  D5-00-01  Contact                   Contact closed        -45 d
                          "ID        PROFILE   NAME\n01800ABC  D5-00-01  Contact")
 
 
-def bridge(site, name, time, position=None):
-    """A running bridge that has received this device at this time, and has read the lines to their end. Returns its
-    connection."""
-    store = Store(str(site.state), "")
-    site.addCleanup(store.connection.close)
+def save_bridge_state(test, name, time, position=None):
+    """Saves the state of a running bridge that has received this device at this time, and has read the lines to their
+    end. Returns its store, which is open."""
+    store = Store(str(test.state), "")
+    test.addCleanup(store.connection.close)
     reported = {"CO": "closed", "last_seen": time.isoformat(timespec="seconds")}
     devices = {device: Device(device, "D5-00-01", "", None, readings)
                for device, readings in ((name, reported), ("01800AFF", {}))}
-    store.save(position or position_at_end(str(site.lines)), list(devices), devices, set())
+    store.save(position or position_at_end(str(test.lines)), list(devices), devices, set())
     return store
 
 
@@ -231,7 +231,7 @@ class RecentTelegrams(GatewayFilesTest):
     def test_a_state_that_is_no_file(self):
         self.append_readings(self.lines, "01800ABC")
         for name in ("bridge.db", "bridge.db-wal"):
-            bridge(self, "01800ABC", NOW)
+            save_bridge_state(self, "01800ABC", NOW)
             self.assertEqual(self.times(), {"01800ABC": NOW})
             for make in (os.mkfifo, lambda path: path.symlink_to(self.folder / "moved")):
                 path = self.folder / name
@@ -248,19 +248,19 @@ class RecentTelegrams(GatewayFilesTest):
 
     def test_times(self):
         self.assertEqual(self.times(), {})
-        store = bridge(self, "01800ABC", NOW)
+        store = save_bridge_state(self, "01800ABC", NOW)
         self.assertEqual(self.times(), {"01800ABC": NOW})
         store.connection.close()
         self.assertEqual(self.times(), {})
 
     def test_a_place_that_is_lost(self):
         self.append_readings(self.lines, "01800ABC")
-        bridge(self, "01800ABC", NOW, Position(1, 5, b"lost"))
+        save_bridge_state(self, "01800ABC", NOW, Position(1, 5, b"lost"))
         self.assertEqual(self.times(), {})
 
     def test_what_the_bridge_has_not_read_yet(self):
         self.append_readings(self.lines, "01800ABC")
-        bridge(self, "01800ABC", NOW)
+        save_bridge_state(self, "01800ABC", NOW)
         with self.lines.open("a") as file:
             file.write('{"type":"ok"}\n' + json.dumps(reading("01800ABD"), separators=(",", ":")) + "\n")
         self.assertEqual(self.times(), {"01800ABC": NOW})
@@ -279,7 +279,7 @@ class RecentTelegrams(GatewayFilesTest):
             self.assertEqual(recent.devices_after(start, str(self.lines), 9000), {"01800ABC"})
 
     def test_a_state_that_is_damaged_or_none(self):
-        bridge(self, "01800ABC", NOW)
+        save_bridge_state(self, "01800ABC", NOW)
         with contextlib.closing(sqlite3.connect(self.state)) as connection, connection:
             connection.execute("UPDATE device SET told = '3'")
         self.assertEqual(self.times(), {})

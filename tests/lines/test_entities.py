@@ -1,7 +1,10 @@
 """Tests of the table of entities: its lines, and the subtopics and events of telegrams."""
 from __future__ import annotations
 
+import os
 import pathlib
+import subprocess
+import sys
 import tempfile
 import unittest
 
@@ -9,6 +12,8 @@ from enogate_lines.contents import Reading, Telegram
 from enogate_lines.entities import AUTO, GREATEST_CHANNEL, Table, WrongTable, parsed_entity_row
 
 TABLE = Table()
+HERE = pathlib.Path(__file__).resolve().parent
+ENTITIES = HERE.parents[1] / "contrib/share/entities"
 
 
 def value(name: str, text: str, unit: str) -> Reading:
@@ -140,7 +145,7 @@ class TableLines(unittest.TestCase):
             self.assertEqual((entity_row.more.get("class"), entity_row.name), (device_class, name), (eep, unit))
 
     def test_digits(self):
-        """What a dashboard shows of a value. tests/around/entities.py compares them with the profiles."""
+        """What a dashboard shows of a value. entities.py compares them with the profiles."""
         for eep, reading, unit, digits in [
             ("A5-02-05", "TMP", "C", 1), ("A5-02-20", "TMP", "C", 2), ("A5-02-30", "TMP", "C", 1),
             ("A5-04-01", "HUM", "%", 1), ("A5-06-01", "ILL1", "lx", 0), ("A5-07-01", "SVC", "V", 2),
@@ -150,6 +155,12 @@ class TableLines(unittest.TestCase):
             ("D5-00-01", "CO", "", None), ("D2-01-12", "EL", "", None),
         ]:
             self.assertEqual(row(eep, reading, unit).digits, digits, (eep, reading, unit))
+
+    def test_each_reading_of_each_profile_has_a_row(self):
+        """entities.py reads the table with code of its own, and prints what is wrong."""
+        run = subprocess.run([sys.executable, "-B", HERE / "entities.py", ENTITIES], stdout=subprocess.PIPE,
+                             stderr=subprocess.STDOUT, text=True, env={**os.environ, "PYTHONPATH": str(HERE.parent)})
+        self.assertEqual((run.stdout, run.returncode), ("", 0))
 
     def test_which_rows_have_digits(self):
         """Each sensor with a unit or a state class is a number for Home Assistant."""

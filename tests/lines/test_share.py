@@ -71,6 +71,13 @@ class GuideTables(unittest.TestCase):
         self.assertEqual(sorted({*profiles}), sorted(share.kinds_by_profile()))
         self.assertEqual(re.search(r"one of (\d+) profiles", row)[1], str(len({*profiles})))
 
+    def test_number_of_profiles_that_were_not_compared(self):
+        """The README has the number of those that the guide names."""
+        names = re.search(r"The rows of (.*) were not compared", (ROOT / "docs/guide/output.md").read_text())[1]
+        kinds = tuple(re.findall(r"\w\w-\w\w(?:-\w\w)?", names))
+        count = sum(profile.startswith(kinds) for profile in share.kinds_by_profile())
+        self.assertIn(f"those of [{count} profiles]", " ".join((ROOT / "README.md").read_text().split()))
+
     def test_limits_of_pages(self):
         for crate, name, text_by_page in LIMIT_TEXTS:
             source = (ROOT / "crates" / crate / "src/limits.rt").read_text(encoding="utf-8")

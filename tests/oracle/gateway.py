@@ -105,9 +105,13 @@ class Gateway:
             return OK_LINE
         if does == "remove":
             return teach_line(sender, *self.forget_device(sender), "deleted")
-        own_eep = self.devices[sender][0]
+        return self.answer_to_actuator_order(rows, sender)
+
+    def answer_to_actuator_order(self, rows, sender):
+        """The packet of the first row whose profile the device has."""
+        eep = self.devices[sender][0]
         for values, profile, payload_form in rows:
-            if own_eep.startswith(profile):
+            if eep.startswith(profile):
                 return radio_output_line(
                     gateway_telegram_packet(0xD2, order_payload(payload_form, values), self.base, sender)
                 ) + OK_LINE

@@ -63,14 +63,14 @@ VALUE_PATTERNS = {
 }
 
 
-def parsed_values(words, text):
-    """The values that this line has at the words in capitals, or None if it does not fit the words."""
-    words = words.split(" ")
-    said_words = text.split(" ", len(words) - 1 if words[-1] == "TEXT" else -1)
-    if len(words) != len(said_words):
+def values_in_line(form, text):
+    """The values that this line has at the form in capitals, or None if it does not fit the form."""
+    form_words = form.split(" ")
+    said_words = text.split(" ", len(form_words) - 1 if form_words[-1] == "TEXT" else -1)
+    if len(form_words) != len(said_words):
         return None
     values = {}
-    for word, as_said in zip(words, said_words):
+    for word, as_said in zip(form_words, said_words):
         if word not in VALUE_PATTERNS:
             if word != as_said:
                 return None
@@ -87,7 +87,7 @@ def parsed_values(words, text):
 
 def matching_orders(text):
     """The rows that this line fits: its values, what is done, and by what."""
-    rows = ((parsed_values(words, text), does, payload_form)
+    rows = ((values_in_line(words, text), does, payload_form)
             for words, does, payload_form in ORDERS_BY_NAME.get(text.split(" ")[0], []))
     return [row for row in rows if row[0] is not None]
 

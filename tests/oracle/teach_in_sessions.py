@@ -97,6 +97,111 @@ KNOWN_PROFILES_BY_RORG = {
     "D4": ["D2-01-12", "F6-01-01"],
 }
 
+# Telegrams of one sender, each of which may change what the next one does.
+SEQUENCE_4BS_1BS = [
+    "A5 08284680",
+    "A5 00007F08",
+    "A5 00000000",
+    "A5 50084680",
+    "A5 100FFF80",
+    "A5 00000008",
+    "D5 00",
+    "D5 09",
+]
+SEQUENCE_UTE = [
+    "D4 A00146001201D2",  # not specified: it is learned again each time
+    "D2 0460E4",
+    "D4 A00146001201D2",
+    "D4 A002FF070005D2",
+    "D2 327F0004",
+    "A5 08284680",
+    "D4 B00146001201D2",
+    "D4 A00146000032D2",
+    "D4 910146001201D2",
+    "D4 900146000032D2",  # deletion, also if it is gone
+    "D2 327F0004",
+    "D4 900146001201D2",
+    "D4 A00146001201D2",
+    "D4 800146000502A5",
+    "A5 00007F08",
+    "D4 D00146001201D2",
+    "A5 00007F08",
+]
+SEQUENCES_BY_MODE = [
+    ("as D5-00-01", ["D5 09", "D5 00", "D5 00", "D5 09"]),
+    ("as A5-02-05", ["A5 E047FF88", "A5 E047FF90", "A5 E047FF80", "A5 08284680", "A5 00000000", "A5 0000FF08"]),
+    ("as A5-02-05", ["A5 00000000", "A5 E047FF80", "A5 00000008"]),
+    ("as F6-02-01", ["F6 00 20", "F6 50 30", "F6 50 30", "F6 00 20"]),
+    ("as D2-01-12", ["D2 0460", "D2 0460E4", "D2 0460"]),
+    ("as D2-05-00", ["D2 327F0004", "D2 327F0004", "D2 0460E4"]),
+    ("as D2-01-12", ["D4 A00146001201D2", "D4 900146001201D2", "D2 0460E4", "D4 900146001201D2"]),
+]
+
+# Each is refused: no row of the table of orders has it, or its profile is not supported.
+REFUSED_LEARN_ORDERS = [
+    "learn as F6-02-03",
+    "learn as F6-00-00",
+    "learn as D5-00-02",
+    "learn as A5-02-0C",
+    "learn as A5-00-00",
+    "learn as D2-01-13",
+    "learn as D4-00-00",
+    "learn as 00-00-00",
+    "learn as FF-FF-FF",
+    "learn as FFFFFFFF",
+    "learn ",
+    " learn on",
+    "learn  on",
+    "learn on ",
+    "learn ON",
+    "Learn on",
+    "learnon",
+    "learn onn",
+    "learn offf",
+    "learn off off",
+    "learn answer",
+    "learn on Answer",
+    "learn on  answer",
+    "learn on answer ",
+    "learn on answer on",
+    "learn off answer",
+    "learn as",
+    "learn as ",
+    "learn A5-02-05",
+    "learn as A5",
+    "learn as A5-02",
+    "learn as A5-02-5",
+    "learn as A5-02-005",
+    "learn as A5-02-0G",
+    "learn as A50205",
+    "learn as A5 02 05",
+    "learn as  A5-02-05",
+    "learn as A5-02-05 ",
+    "learn as A5-02-05 answer",
+    "learn on A5-02-05",
+]
+
+# If 1,000 devices are learned: the telegram of an unknown sender that each mode would learn.
+FIRST_TELEGRAM_BY_MODE = [
+    ("on", "D5 00"),
+    ("answer", "A5 08284680"),
+    ("as D5-00-01", "D5 00"),
+    ("as A5-02-05", "A5 E047FF80"),
+    ("as F6-02-01", "F6 10"),
+    ("as D2-01-12", "D2 00"),
+]
+TELEGRAMS_AFTER_DELETION = [
+    (UNKNOWN_ID, "D4 900146001201D2"),
+    (UNKNOWN_ID, "D4 A00146001201D2"),
+    (1, "D4 D00146001201D2"),
+    (UNKNOWN_ID, "D4 E00146001201D2"),
+    (OTHER_UNKNOWN_ID, "D4 800146001201D2"),
+    (1, "D5 00"),
+    (1, "A5 08284680"),
+    (UNKNOWN_ID, "D4 900146001201D2"),
+    (1, "D5 00"),
+]
+
 
 class TeachInSession(Session):
     def ensure_learned(self, sender, eep):
@@ -376,16 +481,7 @@ def try_no_telegrams(session):
 def try_telegram_sequences(session):
     """The effect of a telegram on the next one: a sender is learned again, the mode is closed, data are read."""
     session.set_mode("on", UNKNOWN_ID)
-    for text in (
-        "A5 08284680",
-        "A5 00007F08",
-        "A5 00000000",
-        "A5 50084680",
-        "A5 100FFF80",
-        "A5 00000008",
-        "D5 00",
-        "D5 09",
-    ):
+    for text in SEQUENCE_4BS_1BS:
         session.add_telegram(text, UNKNOWN_ID)
         session.add_lines("list")
     session.add_lines(f"add {UNKNOWN_ID:08X} A5-02-05", "status")
@@ -394,38 +490,12 @@ def try_telegram_sequences(session):
     session.add_lines(f"add {UNKNOWN_ID:08X} A5-02-05", "list", f"remove {UNKNOWN_ID:08X}", "status")
     session.set_mode("on", OTHER_UNKNOWN_ID)
     session.ensure_learned(OTHER_UNKNOWN_ID, "D2-01-12")
-    for text in (
-        "D4 A00146001201D2",  # not specified: it is learned again each time
-        "D2 0460E4",
-        "D4 A00146001201D2",
-        "D4 A002FF070005D2",
-        "D2 327F0004",
-        "A5 08284680",
-        "D4 B00146001201D2",
-        "D4 A00146000032D2",
-        "D4 910146001201D2",
-        "D4 900146000032D2",  # deletion, also if it is gone
-        "D2 327F0004",
-        "D4 900146001201D2",
-        "D4 A00146001201D2",
-        "D4 800146000502A5",
-        "A5 00007F08",
-        "D4 D00146001201D2",
-        "A5 00007F08",
-    ):
+    for text in SEQUENCE_UTE:
         session.add_telegram(text, UNKNOWN_ID)
         session.add_lines("list")
     session.add_telegram("D2 0460E4", OTHER_UNKNOWN_ID)
     session.add_lines("status", f"remove {OTHER_UNKNOWN_ID:08X}")
-    for mode, texts in (
-        ("as D5-00-01", ["D5 09", "D5 00", "D5 00", "D5 09"]),
-        ("as A5-02-05", ["A5 E047FF88", "A5 E047FF90", "A5 E047FF80", "A5 08284680", "A5 00000000", "A5 0000FF08"]),
-        ("as A5-02-05", ["A5 00000000", "A5 E047FF80", "A5 00000008"]),
-        ("as F6-02-01", ["F6 00 20", "F6 50 30", "F6 50 30", "F6 00 20"]),
-        ("as D2-01-12", ["D2 0460", "D2 0460E4", "D2 0460"]),
-        ("as D2-05-00", ["D2 327F0004", "D2 327F0004", "D2 0460E4"]),
-        ("as D2-01-12", ["D4 A00146001201D2", "D4 900146001201D2", "D2 0460E4", "D4 900146001201D2"]),
-    ):
+    for mode, texts in SEQUENCES_BY_MODE:
         session.set_mode(mode, UNKNOWN_ID)
         for text in texts:
             session.add_telegram(text, UNKNOWN_ID)
@@ -452,48 +522,7 @@ def try_learn_orders(session):
         )
         session.add_lines("add 01800ABC D5-00-01", "list", "remove 01800ABC", "add FFFFFFFF D5-00-01", "status")
     session.add_lines("learn as a5-02-0b", "status", "learn as d2-01-0A", "status", "learn as D2-01-0b", "status")
-    for text in (
-        "learn as F6-02-03",
-        "learn as F6-00-00",
-        "learn as D5-00-02",
-        "learn as A5-02-0C",
-        "learn as A5-00-00",
-        "learn as D2-01-13",
-        "learn as D4-00-00",
-        "learn as 00-00-00",
-        "learn as FF-FF-FF",
-        "learn as FFFFFFFF",
-        "learn ",
-        " learn on",
-        "learn  on",
-        "learn on ",
-        "learn ON",
-        "Learn on",
-        "learnon",
-        "learn onn",
-        "learn offf",
-        "learn off off",
-        "learn answer",
-        "learn on Answer",
-        "learn on  answer",
-        "learn on answer ",
-        "learn on answer on",
-        "learn off answer",
-        "learn as",
-        "learn as ",
-        "learn A5-02-05",
-        "learn as A5",
-        "learn as A5-02",
-        "learn as A5-02-5",
-        "learn as A5-02-005",
-        "learn as A5-02-0G",
-        "learn as A50205",
-        "learn as A5 02 05",
-        "learn as  A5-02-05",
-        "learn as A5-02-05 ",
-        "learn as A5-02-05 answer",
-        "learn on A5-02-05",
-    ):
+    for text in REFUSED_LEARN_ORDERS:
         session.add_lines(text)
     session.add_lines("status")
     session.remove_all_devices()
@@ -525,14 +554,7 @@ def verdicts_full_session():
         session.ensure_learned(sender, eep)
     for sender in range(1, MAX_DEVICES - len(fixed) + 1):
         session.ensure_learned(sender, "D5-00-01")
-    for number, (mode, text) in enumerate((
-        ("on", "D5 00"),
-        ("answer", "A5 08284680"),
-        ("as D5-00-01", "D5 00"),
-        ("as A5-02-05", "A5 E047FF80"),
-        ("as F6-02-01", "F6 10"),
-        ("as D2-01-12", "D2 00"),
-    )):
+    for number, (mode, text) in enumerate(FIRST_TELEGRAM_BY_MODE):
         try_telegrams_in_mode(
             session, mode, number, TELEGRAMS_OF_KNOWN_SENDERS + ["A5 E047FF80", "A5 10080080"], TEACHING_TELEGRAMS
         )
@@ -550,17 +572,7 @@ def verdicts_full_session():
     )
     # After a deletion one more can be learned, unless the deleted sender was not learned.
     session.set_mode("on")
-    for sender, text in (
-        (UNKNOWN_ID, "D4 900146001201D2"),
-        (UNKNOWN_ID, "D4 A00146001201D2"),
-        (1, "D4 D00146001201D2"),
-        (UNKNOWN_ID, "D4 E00146001201D2"),
-        (OTHER_UNKNOWN_ID, "D4 800146001201D2"),
-        (1, "D5 00"),
-        (1, "A5 08284680"),
-        (UNKNOWN_ID, "D4 900146001201D2"),
-        (1, "D5 00"),
-    ):
+    for sender, text in TELEGRAMS_AFTER_DELETION:
         session.add_telegram(text, sender)
     session.add_lines("status")
     size_before = len(session.session_text(explains=False))

@@ -45,7 +45,7 @@ def limit_stack():
     resource.setrlimit(resource.RLIMIT_STACK, (128 << 10, 128 << 10))
 
 
-def limit_memory():
+def limit_stack_and_memory():
     """Limits a process to this stack and 20 MiB of addresses."""
     limit_stack()
     resource.setrlimit(resource.RLIMIT_AS, (20 << 20, 20 << 20))

@@ -3,7 +3,7 @@ as for the packets below, so there is no space for calls that nest once per byte
 MiB of addresses. Measured, it needs about 6 MiB, and about 14 MiB with a registry in a file."""
 import unittest
 
-from runs import ACCEPTED_LINE, OK_LINE, READING_LINE, status_line, limit_memory, limit_stack
+from runs import ACCEPTED_LINE, OK_LINE, READING_LINE, status_line, limit_stack_and_memory, limit_stack
 from testcase import ProgramTest
 
 from oracle import session
@@ -46,11 +46,11 @@ class SmallStackTest(ProgramTest):
         self.assert_run(run, EXPECTED_OUTPUT)
 
     def test_packets_of_each_type_in_little_memory(self):
-        run = self.run_replay(script=packets_of_each_type(), preexec_fn=limit_memory)
+        run = self.run_replay(script=packets_of_each_type(), preexec_fn=limit_stack_and_memory)
         self.assert_run(run, EXPECTED_OUTPUT)
 
     def test_packets_of_each_type_in_little_memory_with_a_registry_in_a_file(self):
-        run = self.run_replay(*self.in_file, script=packets_of_each_type(), preexec_fn=limit_memory)
+        run = self.run_replay(*self.in_file, script=packets_of_each_type(), preexec_fn=limit_stack_and_memory)
         self.assert_run(run, EXPECTED_OUTPUT)
 
     def assert_golden_session(self, name, session_part, *options, limit_resource):
@@ -64,20 +64,21 @@ class SmallStackTest(ProgramTest):
 
     def test_every_teach_in_telegram_in_every_mode(self):
         self.assert_golden_session("verdicts", "plain", limit_resource=limit_stack)
-        self.assert_golden_session("verdicts", "plain", *self.in_file, limit_resource=limit_memory)
+        self.assert_golden_session("verdicts", "plain", *self.in_file, limit_resource=limit_stack_and_memory)
 
     def test_every_teach_in_telegram_in_every_mode_with_explanations(self):
         self.assert_golden_session("verdicts", "explained", "--explain", limit_resource=limit_stack)
-        self.assert_golden_session("verdicts", "explained", "--explain", *self.in_file, limit_resource=limit_memory)
+        self.assert_golden_session("verdicts", "explained", "--explain", *self.in_file,
+                                   limit_resource=limit_stack_and_memory)
 
     def test_every_teach_in_telegram_in_every_mode_with_1000_devices(self):
         self.assert_golden_session("verdicts-full", "plain", limit_resource=limit_stack)
-        self.assert_golden_session("verdicts-full", "plain", *self.in_file, limit_resource=limit_memory)
+        self.assert_golden_session("verdicts-full", "plain", *self.in_file, limit_resource=limit_stack_and_memory)
 
     def test_every_teach_in_telegram_in_every_mode_with_1000_devices_and_explanations(self):
         self.assert_golden_session("verdicts-full", "explained", "--explain", limit_resource=limit_stack)
         self.assert_golden_session("verdicts-full", "explained", "--explain", *self.in_file,
-                                   limit_resource=limit_memory)
+                                   limit_resource=limit_stack_and_memory)
 
 
 class ThousandDevicesTest(ProgramTest):
@@ -94,18 +95,18 @@ class ThousandDevicesTest(ProgramTest):
     )
 
     def test_1000_devices_in_little_memory(self):
-        run = self.run_replay(script=self.SCRIPT, preexec_fn=limit_memory)
+        run = self.run_replay(script=self.SCRIPT, preexec_fn=limit_stack_and_memory)
         self.assert_run(run, self.ANSWERS)
 
     def test_1000_devices_and_their_longest_labels_in_little_memory_with_a_registry_in_a_file(self):
         """Each byte of these labels is printed as two."""
         in_file = ["--db", self.work / "registry.db"]
-        run = self.run_replay(*in_file, script=self.SCRIPT, preexec_fn=limit_memory)
+        run = self.run_replay(*in_file, script=self.SCRIPT, preexec_fn=limit_stack_and_memory)
         self.assert_run(run, self.ANSWERS)
         labels = {sender: 32 * "\\" for sender in range(1000)}
         script = "".join(f"label {sender:08X} {label}\n" for sender, label in labels.items()) + "list\n"
         list_answer = device_lines(dict.fromkeys(labels, ("D5-00-01", None)), labels)
-        run = self.run_replay(*in_file, script=script, preexec_fn=limit_memory)
+        run = self.run_replay(*in_file, script=script, preexec_fn=limit_stack_and_memory)
         self.assert_run(run, 1000 * OK_LINE + list_answer)
 
 

@@ -23,7 +23,7 @@ class Guide(unittest.TestCase):
     def test_times_and_numbers(self):
         text = " ".join(GUIDE.split())
         for sentence in (f"if it arrives within {merge.WINDOW:g} seconds",
-                         f"arrives within {merge.MAX_DELAY:.0f} seconds, and",
+                         f"A report up to {merge.MAX_DELAY:.0f} seconds late",
                          f"the last {merge.REMEMBERED} telegrams"):
             self.assertIn(sentence, text)
         self.assertEqual(merge.MAX_TIME_DIFFERENCE, 1)

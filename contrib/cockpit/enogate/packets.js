@@ -83,6 +83,6 @@ export class PacketRow {
         const device = this.page.model.devices.get(this.line.id);
         this.showDevice(device);
         const hasReadings = readings && device;
-        setText(this.why, hasReadings ? words.readingsText(device.eep, readings) : words.reasonText(this.line.why));
+        setText(this.why, hasReadings ? words.shownReadingsText(device.eep, readings) : words.reasonText(this.line.why));
     }
 }

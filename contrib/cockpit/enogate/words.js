@@ -92,12 +92,12 @@ export function shownReadings(eep, readings) {
 /** Whether a device of this profile has several channels. */
 export const hasChannels = eep => PROFILES.get(eep)?.abilities?.channels.length > 1;
 
-/** Readings of this profile as one text. */
-export const readingsText = (eep, readings) =>
+/** Readings of this profile as one text: those that a row shows. */
+export const shownReadingsText = (eep, readings) =>
     shownReadings(eep, readings).map(one => readingText(eep, one)).join(", ");
 
 /** The readings of a device as one text. */
-export const stateText = ({ eep, readings }) => readingsText(eep, [...readings.values()]);
+export const stateText = ({ eep, readings }) => shownReadingsText(eep, [...readings.values()]);
 
 export const signalText = dbm => dbm === null ? "" : `${dbm} dBm`;
 

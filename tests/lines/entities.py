@@ -2,7 +2,7 @@
 reading of each profile has a line, each line is for a reading, with the words that the profile has for it, and Home
 Assistant knows what a line declares. It reads the table with code of its own.
 
-    tests/around/entities.py contrib/share/entities
+    PYTHONPATH=tests tests/lines/entities.py contrib/share/entities
 """
 import fnmatch
 import shlex
