@@ -97,7 +97,7 @@ KNOWN_PROFILES_BY_RORG = {
     "D4": ["D2-01-12", "F6-01-01"],
 }
 
-# Telegrams of one sender, each of which may change what the next one does.
+# Telegrams of one sender. Each may change what the next one does.
 SEQUENCE_4BS_1BS = [
     "A5 08284680",
     "A5 00007F08",
